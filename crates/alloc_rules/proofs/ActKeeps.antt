@@ -1,17 +1,15 @@
 -- Each act, at whatever part, leaves the local its shape and keeps the front-end's invariant.
-use Rattle.std.proofs.Common.{◌≡◌, ℕ, ◌+◌, ◌^◌, ◌<◌, ◌≤◌, List, [], ◌∷◌, ◌++◌, length, Option, Some, None, refl, sym, ap, ◌∙◌, subst}
-use Rattle.std.proofs.Common.{arith, slice_get, slice_set}
-use Rattle.alloc_rules.proofs.Common.{Call, length-append, Contents, Addr, Label, ThreadNo, ClassRow, SpanRef, SpanKind, Small}
-use Rattle.alloc_rules.proofs.Common.{Large, Free, Planned, Answer, Freed, SpanMap, holds, NameState}
-use Rattle.alloc_rules.proofs.Common.{state_of, Placed, new, Regs, LOADED_ROOM, room, appended, opening, IsFetched, IsAdded, fetch_moves, add_moves}
-use Rattle.alloc_rules.proofs.Common.{give_moves, small, run_of, Asking, Freeing, Giving, Onward, Next, Step, ShardStep, HeapStep, MapStep}
-use Rattle.alloc_rules.proofs.Common.{Local, step_or, no_class, class_row, decided, goes, ends, with_regs, serves, with_freed, with_more}
-use Rattle.alloc_rules.proofs.Common.{fetches, shard_row, after_new, after_new_span, without_first_span, frees_span, heap_row, found}
-use Rattle.alloc_rules.proofs.Common.{map_row, after_take, MayDecide, MayGoOnDecided, says, goes_or_ends, follows}
-use Rattle.alloc_rules.proofs.Common.{About, call_about, IsClassRow, AreRows, BeginsWith, most_slots, At, Here, Away, Standing, stand, at_row}
-use Rattle.alloc_rules.proofs.Common.{at_onward, at_next, regs_next, at_step, IsAsked, HandAbout, HasNone, HasSpans}
-use Rattle.alloc_rules.proofs.Common.{IsOnward, StepShape, IsShaped, IsAct, IsLawful, FrontRules, Left, FitsShard, FitsMap}
-use Rattle.alloc_rules.proofs.Common.{IsKept, IsLowRun, ShardActsKeep, HeapActsKeep, IsKindThere, IsFoundClass, MapActsKeep, NamesActsKeep, FrontActsKeep}
+use Rattle.std.proofs.Common.{◌≡◌, ℕ, ◌+◌, ◌^◌, ◌<◌, ◌≤◌, List, [], ◌∷◌, ◌++◌, length, Option, Some, None, refl, sym, ap, ◌∙◌, subst, arith, slice_get}
+use Rattle.std.proofs.Common.{slice_set}
+use Rattle.alloc_rules.proofs.Common.{Call, length-append, Contents, Addr, Label, ThreadNo, ClassRow, SpanRef, SpanKind, Small, Large, Free, Planned, Answer}
+use Rattle.alloc_rules.proofs.Common.{Freed, SpanMap, holds, NameState, state_of, Placed, new, Regs, LOADED_ROOM, room, appended, opening, IsFetched, IsAdded}
+use Rattle.alloc_rules.proofs.Common.{fetch_moves, add_moves, give_moves, small, run_of, Asking, Freeing, Giving, Onward, Next, Step, ShardStep, HeapStep}
+use Rattle.alloc_rules.proofs.Common.{MapStep, Local, step_or, no_class, class_row, decided, goes, ends, with_regs, serves, with_freed, with_more, fetches}
+use Rattle.alloc_rules.proofs.Common.{shard_row, after_new, after_new_span, without_first_span, frees_span, heap_row, found, map_row, after_take, MayDecide}
+use Rattle.alloc_rules.proofs.Common.{MayGoOnDecided, says, goes_or_ends, follows, About, call_about, IsClassRow, AreRows, BeginsWith, most_slots, At, Here}
+use Rattle.alloc_rules.proofs.Common.{Away, Standing, stand, at_row, at_onward, at_next, regs_next, at_step, IsAsked, HandAbout, HasNone, HasSpans, IsOnward}
+use Rattle.alloc_rules.proofs.Common.{StepShape, IsShaped, IsAct, IsLawful, FrontRules, Left, FitsShard, FitsMap, IsKept, IsLowRun, ShardActsKeep}
+use Rattle.alloc_rules.proofs.Common.{HeapActsKeep, IsKindThere, IsFoundClass, MapActsKeep, NamesActsKeep, FrontActsKeep, with_spans_behind}
 use Rattle.alloc_rules.specs.FrontLaw.{IsReady}
 use Rattle.central_free.specs.Central.{IsSound}
 use Rattle.class_shard.specs.Laws.{IsGiven}
@@ -26,9 +24,8 @@ use Rattle.call_steps.specs.declared.step.NamesStep.TheVariants as names
 use Rattle.call_steps.specs.Calls as calls
 use Rattle.alloc_rules.specs.FrontLaw as fronts
 use Rattle.alloc_rules.proofs.Keeping.{Common, IsNext, NotHere, behind, changed, clears_next, common_of, ends_next, entry_at, entry_shape, gave_next}
-use Rattle.alloc_rules.proofs.Keeping.{given_back_next}
-use Rattle.alloc_rules.proofs.Keeping.{giving_not, goes_quiet, kept_by, later_shape, onward_not, publishes_next, same_next, serves_next, shape_of, stays_away}
-use Rattle.alloc_rules.proofs.Keeping.{waits_at}
+use Rattle.alloc_rules.proofs.Keeping.{given_back_next, giving_not, goes_quiet, kept_by, later_shape, onward_not, publishes_next, same_next, serves_next}
+use Rattle.alloc_rules.proofs.Keeping.{shape_of, stays_away, waits_at}
 
 shard_not : {R : Type 0} (row : ShardStep R) → NotHere (at_step (does.Shard row))
 shard_not row = grind (arith, giving_not)
@@ -92,10 +89,7 @@ module _ {P V R : Type 0} {r : FrontRules P V R} {about : R → About} {planned 
         let is : IsClassRow (class_row r.calls.rows l) = row_there l c in
         let n : ℕ = (class_row r.calls.rows l).batch in
         let span : SpanRef = small l.regs.class run in
-        let size : s.central.row.size < 2 ^ 32 = omega (arith, ap (λ (x : ClassRow). x.size) same, is.small) in
-        let pages : span.pages ≤ 255 = omega (arith, ap (λ (x : ClassRow). x.pages) same, fit.0.pages, is.most) in
-        let got : IsAdded n s span = add_moves n s span is.batch sound fit.0.pages low size pages fit.0.apart in
-        more_next l a (opening span s.central.row.size n) c shape.0 got.some (omega (arith, got.few, is.few))
+        grind (arith, add_moves n s span is.batch sound fit.0.pages low, more_next l a (opening span s.central.row.size n) c shape.0)
     shard_next s l (shard.Give g) c shape sound same low fit =
         let spans : List SpanRef = shards.freed_by l.regs.hand.items s in
         let got : IsGiven l.regs.hand.items s = give_moves l.regs.hand.items s sound fit.taken fit.different in
@@ -238,6 +232,4 @@ module _ {P V R : Type 0} {r : FrontRules P V R} {about : R → About} {planned 
       let at_here : slice_get us t ≡ Some (stand l.seat l.regs l.acts (Here row)) = at ∙ ap (λ (s : Step R). Some (stand l.seat l.regs l.acts (at_step s))) is in
       let ready : IsReady r t l.regs (about row) = record { thread = shaped.thread; class = shaped.class; room = shaped.hand; hand = shape.0 } in
       let act = law.does n ps us t p l.seat l.regs l.acts row low few holds at_here there ready in
-      let then_holds = law.acts n ps us t p l.seat l.regs l.acts row low few holds at_here there ready in
-      let behind_act = follows_behind table t l p row shaped shape.1 act (r.acts p l.seat l.regs row).next act.next shape.0 in
-      record { shaped = behind_act.shaped; stands = behind_act.stands (n + 1) (slice_set ps (r.place l.seat l.regs row) (r.acts p l.seat l.regs row).part) us then_holds }
+      grind (arith, follows_behind table t l p row shaped shape.1 act (r.acts p l.seat l.regs row).next act.next shape.0)

@@ -2,12 +2,11 @@
 use Rattle.std.proofs.Common.{◌≡◌, ℕ, ◌+◌, ◌*◌, ◌<◌, ◌≤◌, ◌⊎◌, ◌↔◌, true, false, eqb, List, length, map, Option, Some, None, refl, sym, ap, ◌∙◌, subst, inl}
 use Rattle.std.proofs.Common.{inr, arith, sum_by, slice_get, All}
 use Rattle.alloc_rules.proofs.Common.{All-weaker, cases_Bool, cond-true, eq-eqb, false≢true, Addr, Run, MOST_PICKS, script_of, Asked, World, run, HaveEnded}
-use Rattle.alloc_rules.proofs.Common.{Extent, blocks_after, live_bytes, CallLine, Planned, state_of, HeapConfig, Placed, new, none_fits}
-use Rattle.alloc_rules.proofs.Common.{IsSound, new_gives, small, runs_at, spans_at, objects_at, Account, loose, in_hand, named_at, Setup, Books}
-use Rattle.alloc_rules.proofs.Common.{class_number, IsStanding, Facts, least, none_counts, of_all, sum_of_both, class_zero, objects_are_once, names_are_live}
-use Rattle.alloc_rules.proofs.Common.{page_bytes, Local, under, About, Parts, place_of, rules, lines_by, TellsFirst, TellsScript}
-use Rattle.alloc_rules.proofs.Common.{is_under_way, stock_of, AreBooksOf, IsValid, pages_asked, calls, setup_of, books_of, HoldsAfter, Regs, Step, Part}
-use Rattle.alloc_rules.proofs.Common.{account_of, Standing, StepShape, IsLawful, FrontRules}
+use Rattle.alloc_rules.proofs.Common.{Extent, blocks_after, live_bytes, CallLine, Planned, state_of, HeapConfig, Placed, new, none_fits, IsSound, new_gives}
+use Rattle.alloc_rules.proofs.Common.{small, runs_at, spans_at, objects_at, Account, loose, in_hand, named_at, Setup, Books, class_number, IsStanding, Facts}
+use Rattle.alloc_rules.proofs.Common.{least, none_counts, of_all, sum_of_both, class_zero, objects_are_once, names_are_live, page_bytes, Local, under, About}
+use Rattle.alloc_rules.proofs.Common.{Parts, place_of, rules, lines_by, TellsFirst, TellsScript, is_under_way, stock_of, AreBooksOf, IsValid, pages_asked}
+use Rattle.alloc_rules.proofs.Common.{calls, setup_of, books_of, HoldsAfter, Regs, Step, Part, account_of, Standing, StepShape, IsLawful, FrontRules}
 use Rattle.holdings.proofs.Blocks.{bytes_are_within}
 use Rattle.name_table.specs.declared.table.NameState.TheVariants as name
 use Rattle.heap_rules.specs.Heap as heaps

@@ -1,5 +1,5 @@
 -- An allocation is answered none exactly where the heap has no run for it.
-use Rattle.std.proofs.Common.{◌≡◌, ℕ, ◌+◌, ◌≤◌, ◌↔◌, Bool, true, [], ◌∷◌, ◌++◌, length, Option, Some, None, refl, sym, ap, ◌∙◌, subst, arith}
+use Rattle.std.proofs.Common.{◌≡◌, ℕ, ◌+◌, ◌≤◌, ◌↔◌, Bool, true, [], ◌∷◌, ◌++◌, length, Option, Some, None, refl, sym, ap, ◌∙◌, arith}
 use Rattle.alloc_rules.proofs.Common.{append_cancel_left, length-append, pages_holding, Label, Call, Malloc, Answer, Block, NoBlock, Placed, new, none_fits}
 use Rattle.alloc_rules.proofs.Common.{address_of, Asking, FrontCalls, FrontRules, closes, ends, class_row, Local, after_new, after_new_span}
 use Rattle.alloc_rules.proofs.Common.{heap_after, Decides, pages_asked, AnswersNone, Step, About}
@@ -43,12 +43,8 @@ module _ {V R : Type 0} (h : heaps.Heap) (l : Local V R) (b : Bool) where
 
 none_by_step : {P V R : Type 0} (r : FrontRules P V R) (about : R → About) (h : heaps.Heap) (l : Local V R) (s : Step R) (n : ℕ) → ((new h n ≡ None) ↔ (none_fits h n ≡ true))
     → pages_asked r.calls.rows l s ≡ Some n → Decides l (heap_after r.calls h l s).1 NoBlock ↔ (none_fits h n ≡ true)
-none_by_step r about h l (does.Heap (heap.New label size)) n law is =
-    let e : pages_holding size ≡ n = cc in
-    none_of_block h l (none_fits h n) label size (new h (pages_holding size)) (subst (λ k. (new h k ≡ None) ↔ (none_fits h n ≡ true)) (sym e) law)
-none_by_step r about h l (does.Heap (heap.NewSpan a)) n law is =
-    let e : (class_row r.calls.rows l).pages ≡ n = cc in
-    none_of_span h l (none_fits h n) a (new h (class_row r.calls.rows l).pages) (subst (λ k. (new h k ≡ None) ↔ (none_fits h n ≡ true)) (sym e) law)
+none_by_step r about h l (does.Heap (heap.New label size)) n law is = grind (arith, none_of_block h l (none_fits h n) label size (new h (pages_holding size)))
+none_by_step r about h l (does.Heap (heap.NewSpan a)) n law is = grind (arith, none_of_span h l (none_fits h n) a (new h (class_row r.calls.rows l).pages))
 none_by_step r about h l s n law is = absurd (cc)
 
 pub answers_none : {P V R : Type 0} (r : FrontRules P V R) (about : R → About) (h : heaps.Heap) (l : Local V R)

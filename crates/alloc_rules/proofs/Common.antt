@@ -4,15 +4,13 @@ pub use Rattle.alloc_rules.specs.Accounts.{account_of, apart_of, clears_of, doin
 pub use Rattle.alloc_rules.specs.Answers.{AnswersNone, Decides, RefusesThere, pages_asked}
 pub use Rattle.alloc_rules.specs.FrontLaw.{FitsAt, IsAct, IsLawful, IsNext, IsOwn, RefusesAs, idle}
 pub use Rattle.alloc_rules.specs.Law.{AreLawful, HoldsAfter, books_of, calls, setup_of}
-pub use Rattle.alloc_rules.specs.Laws.{AddsSome, FrontActsKeep, FrontActsMove, FrontKept, HeapActsKeep, HeapActsMove, IsFoundClass, IsKept, IsKindThere}
+pub use Rattle.alloc_rules.specs.Laws.{AddsSome, FrontActsKeep, FrontActsMove, HeapActsKeep, HeapActsMove, IsFoundClass, IsKept, IsKindThere}
 pub use Rattle.alloc_rules.specs.Laws.{IsLowRun, MapActsKeep, MapActsMove, NamesActsKeep, NamesActsMove, ShardActsFit, ShardActsKeep, ShardActsMove}
 pub use Rattle.alloc_rules.specs.Machine.{Parts, after, first_of, first_parts, first_shard, first_shards, heap_config, middle_of, number, number_of, parts_of}
 pub use Rattle.alloc_rules.specs.Machine.{place_of, rules, turns, waits}
 pub use Rattle.alloc_rules.specs.Scripts.{Closes, Comes, GoesOn, IsIn, Path, Stays, is_under_way}
-pub use Rattle.alloc_rules.specs.Shapes.{HandAbout, HasNone, HasSpans, IsAsked, IsGiving, IsLater, IsOnward, IsShaped}
-pub use Rattle.alloc_rules.specs.Shapes.{StepShape}
-pub use Rattle.alloc_rules.specs.Standings.{At, Away, Here, Later, Standing, at_giving, at_next, at_onward, at_row, at_step}
-pub use Rattle.alloc_rules.specs.Standings.{regs_next, stand, standing_of}
+pub use Rattle.alloc_rules.specs.Shapes.{HandAbout, HasNone, HasSpans, IsAsked, IsGiving, IsOnward, IsShaped, StepShape}
+pub use Rattle.alloc_rules.specs.Standings.{At, Away, Here, Later, Standing, at_giving, at_next, at_onward, at_row, at_step, regs_next, stand, standing_of}
 pub use Rattle.alloc_rules.specs.Stocks.{AreBooksOf, ArePartsOk, Does, IsShardOf, decided_at, no_shard, shard_at, stock_of, stored_in}
 pub use Rattle.alloc_rules.specs.Told.{TellsFirst, TellsScript, lines_by}
 pub use Rattle.alloc_rules.specs.Valid.{IsCall, IsInOrder, IsValid, got_in, put_in}
@@ -32,13 +30,13 @@ pub use Rattle.call_steps.specs.Fronts.{AreEntries, FrontCalls, FrontRules, IsEn
 pub use Rattle.call_steps.specs.Hands.{behind, clears, comes_to, decides_free, gave, given_back, goes_onward, publishes, serves, serves_first, stocks}
 pub use Rattle.call_steps.specs.Hands.{with_freed, with_hand as to_hand, with_hand, with_regs}
 pub use Rattle.call_steps.specs.Local.{Decided, Local, class_row, closes, decided, ends, first_act, first_of_call, first_of_malloc, fresh_regs, goes}
-pub use Rattle.call_steps.specs.Local.{idle_local, next_call, regs_by, regs_of_call, regs_of_malloc, step_or, thread_no, told}
+pub use Rattle.call_steps.specs.Local.{idle_local, next_call, regs_by, regs_of_call, regs_of_malloc, step_or, thread_no, told, no_class}
 pub use Rattle.call_steps.specs.Shapes.{AreRows, BeginsWith, IsClassRow, most_slots}
 pub use Rattle.call_steps.specs.ShardActs.{fetches, shard_row, with_more}
 pub use Rattle.call_steps.specs.declared.step.HeapStep.TheVariants.{FreeSpan, GiveBack, New, NewSpan, Unback}
 pub use Rattle.call_steps.specs.declared.step.MapStep.TheVariants.{Clear, ClearSpan, Lookup, Set, SetSpan}
 pub use Rattle.call_steps.specs.declared.step.ShardStep.TheVariants.{AddFetch, Fetch, Give}
-pub use Rattle.central_free.specs.Central.{IsApartFrom, IsOfRow, IsTakenIn, opening, put_all, taken}
+pub use Rattle.central_free.specs.Central.{IsApartFrom, IsOfRow, IsTakenIn, opening}
 pub use Rattle.class_shard.{proofs.AddsMove.add_moves, proofs.FetchesMove.fetch_moves, proofs.GivesMove.give_moves, proofs.SpansAreCut.spans_cut}
 pub use Rattle.class_shard.specs.Laws.{IsAdded, IsCutInto, IsFetched, IsSame, LiesInSpan, begun_at, found_at, objects_in_spans, spans_in, with_new}
 pub use Rattle.class_shard.specs.Shard.{Shard, after_fetch, after_give, fetched, freed_by, places}
@@ -54,10 +52,10 @@ pub use Rattle.holdings.proofs.Sums.{name_cases, none_counts, of_all, of_run, sa
 pub use Rattle.holdings.proofs.Sums.{same_span_run, shift, starting, starting_span, sum_of_both, without_counts}
 pub use Rattle.holdings.specs.Accounts.{Account, Asks, Doing, Frees, Holds, Other, Publishes, Takes, WeighSame, asking, gets, got, in_hand, is_out, is_taken}
 pub use Rattle.holdings.specs.Accounts.{is_unpublished, loose, mentions, named_at, pending, publishing, put, puts, taking, unpublished, untaken}
-pub use Rattle.holdings.specs.Books.{Begins, Books, IsCut, IsOfClass, LiesIn, Setup, Stock, class_number, no_class, pages_of, size_of}
+pub use Rattle.holdings.specs.Books.{Begins, Books, IsCut, IsOfClass, LiesIn, Setup, Stock, class_number, no_class, pages_of, size_of, no_row}
 pub use Rattle.holdings.specs.Laws.{Found, HasNothing, IsFirst, IsMapped, IsOff, IsTaken}
 pub use Rattle.holdings.specs.Moves.{AddSpan, ClearsRun, ClearsSpan, FindsObject, FindsRun, FreesObject, FreesRun, FreesSpan, GetsFirst, GetsNone, GetsObject}
-pub use Rattle.holdings.specs.Moves.{GetsRun, GetsSpan, Move, MoveObjects, MovesHand, Nothing, One, Rests, Said, SaysOther, SetsRun, SetsSpan, TakesAddr}
+pub use Rattle.holdings.specs.Moves.{GetsRun, GetsSpan, Move, MoveObjects, MovesHand, One, Rests, Said, SaysOther, SetsRun, SetsSpan, TakesAddr}
 pub use Rattle.holdings.specs.Moves.{TakesNull, books_with, lines}
 pub use Rattle.holdings.specs.Runs.{IsPlaced, address_of, bit, block_of, first_byte, large, less, objects_at, run_of, runs_at, runs_like, same_run, same_span}
 pub use Rattle.holdings.specs.Runs.{small, spans_at, spans_like, spans_of_run, without}
@@ -69,11 +67,10 @@ pub use Rattle.rseq_core.specs.Bags.{appended, emptied, room, without_first}
 pub use Rattle.span_list.specs.Span.{SpanState, objects_of}
 pub use Rattle.std.specs.List.{position_or_len, range_with_len}
 pub use Rattle.std.proofs.{Math.Seq.append_snoc, lemmas.List.FromFn.get_or-range_with_len, lemmas.List.FromFn.length-range_with_len}
-pub use Rattle.std.proofs.lemmas.Bool.{and_from, and_left, and_parts, and_right, cases_Bool, cases_eq, cases_lt, cond-true, cond_both, eq-eqb, eqb-true}
+pub use Rattle.std.proofs.lemmas.Bool.{and_from, and_parts, cases_Bool, cases_eq, cases_lt, cond-true, cond_both, eq-eqb, eqb-true}
 pub use Rattle.std.proofs.lemmas.Bool.{false_from_ne_true, false≢true, le-leb, le-ltb, leb-true, lt-ltb, ltb-false, ltb-true, ne_eqb}
 pub use Rattle.std.proofs.lemmas.List.{append-nil, append_cancel_left, get_or-map, get_or-set_other, get_or-set_same, get_or_default, get_or_past}
-pub use Rattle.std.proofs.lemmas.List.{length-append, length-drop, length-map, length-set, length-take, map-append, reverse-append, take-append-drop}
-pub use Rattle.std.proofs.lemmas.List.{take_all}
+pub use Rattle.std.proofs.lemmas.List.{length-append, length-drop, length-map, length-set, length-take, map-append, reverse-append, take-append-drop, take_all}
 pub use Rattle.std.proofs.lemmas.List.Elements.{All-cons, All-contains, All-head, All-map, All-nil, All-set, All-tail, All-weaker, filter-append}
 pub use Rattle.std.proofs.lemmas.List.Sums.{count_by-le-length, get_or-le-sum_by, sum_by-append, sum_by-cons, sum_by-le-sum_by}
 pub use Rattle.std.proofs.lemmas.Option.{get_or_from_slice_get, slice_get-get_or, slice_get-map, slice_get_past, slice_get_within}
@@ -88,7 +85,7 @@ pub use Rattle.tc_model.specs.Replays.{HaveEnded, done_by, done_in}
 pub use Rattle.tc_model.specs.Run.{Rules, World, run, start, with_pair, world_of}
 pub use Rattle.tc_model.specs.Serial.{AreThreads, Ends, NeverWaits, Rises, next_turn}
 pub use Rattle.tc_model.specs.Sound.{FitsThere, IsOrder, IsReady}
-pub use Rattle.tc_model.specs.Steps.{AllMove, moving, stepped, stepped_at, stepped_by, stepped_on}
+pub use Rattle.tc_model.specs.Steps.{moving, stepped}
 pub use Rattle.tc_model.specs.declared.answers.Answer.TheVariants.{Block, Freed, FreedNull, NoBlock, Released}
 pub use Rattle.tc_model.specs.declared.calls.Call.TheVariants.{Drain, Free, Malloc, Release, Resize}
 pub use Rattle.tc_units.{specs.Bag.Contents, specs.Units.page_bytes, specs.Units.pages_holding, specs.declared.spans.ClassRow.ClassRow}

@@ -1,6 +1,5 @@
 -- Objects and spans, as the laws of shards count them and as the books do.
-use Rattle.std.proofs.Common.{◌≡◌, ℕ, ◌+◌, ◌-◌, Bool, cond, eqb, List, [], ◌∷◌, ◌++◌, length, take, drop, reverse, count_by, refl, sym, ap, ◌∙◌}
-use Rattle.std.proofs.Common.{arith}
+use Rattle.std.proofs.Common.{◌≡◌, ℕ, ◌+◌, ◌-◌, Bool, cond, eqb, List, [], ◌∷◌, ◌++◌, length, take, drop, reverse, count_by, refl, sym, ap, ◌∙◌, arith}
 use Rattle.alloc_rules.proofs.Common.{take-append-drop, reverse-append, sum_by-cons, Addr, Run, SpanRef, last_first, without_last, found_at, begun_at, bit}
 use Rattle.alloc_rules.proofs.Common.{first_byte, run_of, same_run, same_span, runs_like, objects_at, spans_like, spans_at, Counts, counts_append, like}
 use Rattle.alloc_rules.proofs.Common.{like_span, starting_span}

@@ -38,13 +38,12 @@ module _ {P V R : Type 0} (r : FrontRules P V R) (about : R → About) (rows : L
       let x : Shard = shard_at p.shards k in
       let member : 0 < spans_like lies.span (spans_in x) = omega (arith, lies.member (λ (y : SpanRef). same_span y lies.span) (same_span_refl lies.span), spans_count lies.span (spans_in x)) in
       let sum = least (λ (y : Shard). spans_like lies.span (spans_in y)) p.shards k x (slice_get-get_or p.shards k no_shard (omega (arith, classes, below))) in
-      record {
-        span = lies.span;
-        owned = omega (arith, member, sum);
-        kind = span_all (λ (s : SpanRef). s.kind ≡ Small (class_number k)) lies.span (spans_in x) (there k below).kinds member;
-        from = lies.from;
-        to = omega (arith, lies.to, size_is k below);
-      }
+      grind (
+        arith,
+        span_all (λ (s : SpanRef). s.kind ≡ Small (class_number k)) lies.span (spans_in x) (there k below).kinds member,
+        there k below,
+        size_is k below,
+      )
 
   of_class : (k : ℕ) (x : Shard) (s : SpanRef) → slice_get p.shards k ≡ Some x → 0 < spans_like s (spans_in x) → IsOfClass rows s
   of_class k x s is some =

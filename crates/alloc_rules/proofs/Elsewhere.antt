@@ -1,13 +1,12 @@
 -- What no act does, over any front-end: it lowers no number of ended calls, and refuses a call only where its step may.
 use Rattle.std.proofs.Common.{◌≡◌, ℕ, ◌*◌, ◌/◌, ◌≤◌, Bool, true, false, List, [], ◌∷◌, Option, Some, None, refl, sym, ap, ◌∙◌, arith, find}
-use Rattle.alloc_rules.proofs.Common.{false≢true, page_bytes, Addr, Label, SpanRef, SpanKind, Small, Large, Call, Malloc, Free}
-use Rattle.alloc_rules.proofs.Common.{Answer, Block, Freed, FreedNull, NoBlock, SpanMap, holds, NameState, Placed, Regs}
-use Rattle.alloc_rules.proofs.Common.{without_first, address_of, Asking, Serving, Giving, Onward, Step, Next, ShardStep, HeapStep}
-use Rattle.alloc_rules.proofs.Common.{MapStep, NamesStep, FrontCalls, FrontRules, Local, decided, ends, class_row, About, call_about, with_hand}
-use Rattle.alloc_rules.proofs.Common.{stocks, serves_first, gave, clears, with_freed, says_in, goes_or_ends, follows, with_more, fetches}
-use Rattle.alloc_rules.proofs.Common.{shard_row, after_new, after_new_span, frees_span, without_first_span, heap_row, found, after_lookup}
-use Rattle.alloc_rules.proofs.Common.{clears_span, map_row, after_take, names_row, shard_after, heap_after, map_after, names_after, front_after, Decides}
-use Rattle.alloc_rules.proofs.Common.{RefusesThere, Part, RefusesAs, after}
+use Rattle.alloc_rules.proofs.Common.{false≢true, page_bytes, Addr, Label, SpanRef, SpanKind, Small, Large, Call, Malloc, Free, Answer, Block, Freed, FreedNull}
+use Rattle.alloc_rules.proofs.Common.{NoBlock, SpanMap, holds, NameState, Placed, Regs, without_first, address_of, Asking, Serving, Giving, Onward, Step, Next}
+use Rattle.alloc_rules.proofs.Common.{ShardStep, HeapStep, MapStep, NamesStep, FrontCalls, FrontRules, Local, decided, ends, class_row, About, call_about}
+use Rattle.alloc_rules.proofs.Common.{with_hand, stocks, serves_first, gave, clears, with_freed, says_in, goes_or_ends, follows, with_more, fetches, shard_row}
+use Rattle.alloc_rules.proofs.Common.{after_new, after_new_span, frees_span, without_first_span, heap_row, found, after_lookup, clears_span, map_row}
+use Rattle.alloc_rules.proofs.Common.{after_take, names_row, shard_after, heap_after, map_after, names_after, front_after, Decides, RefusesThere, Part}
+use Rattle.alloc_rules.proofs.Common.{RefusesAs, after}
 use Rattle.call_steps.specs.Refusals.{is_refusal, may_refuse}
 use Rattle.name_table.specs.declared.table.NameState.TheVariants as name
 use Rattle.heap_rules.specs.Heap as heaps

@@ -3,9 +3,9 @@ use Rattle.std.proofs.Common.{◌≡◌, ℕ, zero, suc, ◌+◌, ◌<◌, false
 use Rattle.std.proofs.Common.{subst, inr, arith, ◌++◌, slice_set, is_some, option_map, sum_by, All, slice_get}
 use Rattle.alloc_rules.proofs.Common.{range_with_len, false≢true, slice_get-get_or, slice_get-map, slice_get_within, length-append, length-map}
 use Rattle.alloc_rules.proofs.Common.{length-range_with_len, get_or-range_with_len, sum_by-cons, All-nil, All-cons, All-map, class_of, Addr, Class, Label}
-use Rattle.alloc_rules.proofs.Common.{ClassRow, SpanRef, Small, Call, Malloc, Free, Release, Drain, Resize, Planned, Asked, script_of, labels_of, start}
-use Rattle.alloc_rules.proofs.Common.{answers_at, AreBelow, NameState, Shard, places, spans_in, objects_in_spans, IsOfRow, of_all, spans_like, spans_at}
-use Rattle.alloc_rules.proofs.Common.{objects_at, Account, got, put, gets, puts, asking, publishing, taking, pending, untaken, mentions, Books, class_number}
+use Rattle.alloc_rules.proofs.Common.{ClassRow, SpanRef, Call, Malloc, Free, Release, Drain, Resize, Planned, Asked, script_of, labels_of, start}
+use Rattle.alloc_rules.proofs.Common.{answers_at, AreBelow, NameState, Shard, places, spans_in, objects_in_spans, of_all, spans_like, spans_at}
+use Rattle.alloc_rules.proofs.Common.{objects_at, Account, got, put, gets, puts, asking, publishing, taking, pending, untaken, mentions, Books}
 use Rattle.alloc_rules.proofs.Common.{HasNothing, IsFirst, Facts, Regs, room, Step, append_snoc, FrontCalls, AreEntries, FrontRules}
 use Rattle.alloc_rules.proofs.Common.{IsEntry, Local, Decided, told, step_or, idle_local, first_of_malloc, first_of_call, first_act, regs_of_malloc}
 use Rattle.alloc_rules.proofs.Common.{thread_no, About, call_at, IsClassRow, AreRows, first_shard, first_shards, first_of}
@@ -19,7 +19,7 @@ use Rattle.name_table.specs.declared.table.NameState.TheVariants as name
 use Rattle.call_steps.specs.declared.step.Step.TheVariants as does
 use Rattle.alloc_rules.proofs.Steps.{row_there}
 use Rattle.alloc_rules.proofs.Inputs.{both_in, in_scripts, sum-same, valid_once, valid_planned}
-use Rattle.alloc_rules.proofs.Keeping.{CommonOf, IsNext, come_next}
+use Rattle.alloc_rules.proofs.Keeping.{IsNext, come_next}
 use Rattle.alloc_rules.proofs.ScriptFacts.{asks_first, first_is_of, first_under, next_way}
 use Rattle.alloc_rules.proofs.Serving.{ArePlaced, IsAtWork, IsServed}
 
@@ -109,16 +109,7 @@ shard_is room j zero (row ∷ rows) x is =
 shard_is room j (suc k) (row ∷ rows) x is = grind (arith, shard_is room (j + 1) k rows x is)
 
 shard_of : (room k : ℕ) (rows : List ClassRow) (x : Shard) → AreRows rows → slice_get (first_shards room 0 rows) k ≡ Some x → IsShardOf rows k x
-shard_of room k rows x are is =
-    let r = shard_is room 0 k rows x is in
-    let row : IsClassRow r.row = of_all IsClassRow rows k r.row are.each r.there in
-    let e : first_shard room k r.row ≡ x = ap (λ n. first_shard room n r.row) (let z : k ≡ 0 + k = omega arith in z) ∙ r.is in
-    subst (IsShardOf rows k) e (record {
-      class = refl;
-      row = r.there;
-      sound = record { some = row.size; fits = row.fits; of_row = All-nil (IsOfRow r.row); apart = λ i j d less within. absurd (omega (arith, within)) };
-      kinds = All-nil (λ (s : SpanRef). s.kind ≡ Small (class_number k));
-    })
+shard_of room k rows x are is = grind (arith, shard_is room 0 k rows x is, of_all IsClassRow rows k)
 
 first_room : (room j : ℕ) (rows : List ClassRow) → All (λ (x : Shard). HasRoom room x.transfer) (first_shards room j rows)
 first_room room j [] = All-nil (λ (x : Shard). HasRoom room x.transfer)
@@ -158,14 +149,7 @@ module _ {P V R : Type 0} {r : FrontRules P V R} {about : R → About} {planned 
   next : (t : ℕ) → IsNext law valid.rows t (idle r t) (first_of r about asked t)
   next t =
       let l : Local V R = idle_local (thread_no t) (r.seats t) in
-      let common : CommonOf law valid.rows t l.regs l.freed (script t) = record {
-        thread = refl;
-        class = valid.rows.some;
-        hand = omega arith;
-        freed = omega arith;
-        rest = valid_planned r.calls.rows planned asked t valid;
-      } in
-      come_next law valid.rows t l (script t) common (record { hand = refl; freed = refl })
+      grind (arith, valid_planned r.calls.rows planned asked t valid, come_next law valid.rows t l (script t))
 
   each_stands : (done : List (Standing V R)) (k m : ℕ) → length done ≡ k → Holds 0 r.parts (done ++ map (idle r) (range_with_len k m))
       → Holds 0 r.parts (done ++ map (λ t. standing_of (first_of r about asked t)) (range_with_len k m))

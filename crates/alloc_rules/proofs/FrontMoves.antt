@@ -1,12 +1,11 @@
 -- An act of the front-end is one move of the books: objects move between its part and the hand, and its call goes on or is decided.
 use Rattle.std.proofs.Common.{◌≡◌, ℕ, ◌+◌, ◌<◌, ◌⊎◌, List, [], ◌∷◌, Option, Some, None, refl, sym, ap, ◌∙◌, subst, inl, inr, arith, length, slice_get}
 use Rattle.std.proofs.Common.{slice_set}
-use Rattle.alloc_rules.proofs.Common.{eq-eqb, cases_eq, Addr, Class, Free, Freed, SpanRef, Regs, ClassRow, Serving, Freeing, Planned, Answer, CallLine}
-use Rattle.alloc_rules.proofs.Common.{HeapConfig, objects_at, Doing, Other, WeighSame, Books, One, MoveObjects, Asking}
-use Rattle.alloc_rules.proofs.Common.{Giving, Next, Local, decided, goes, ends, publishes, comes_to, serves, decides_free, behind, clears, About}
-use Rattle.alloc_rules.proofs.Common.{HasNoLabel, call_about, MayDecide, MayGoOnDecided, says, goes_or_ends, follows, BeginsWith, account_of}
-use Rattle.alloc_rules.proofs.Common.{doing_about, HandAbout, StepShape, IsNext, IsAct, AreEntries, FrontRules, Left, Parts, front_row, stock_of}
-use Rattle.alloc_rules.proofs.Common.{Does, setup, IsBefore, FrontActsMove}
+use Rattle.alloc_rules.proofs.Common.{eq-eqb, Addr, Class, Free, Freed, SpanRef, Regs, ClassRow, Serving, Freeing, Planned, Answer, CallLine, HeapConfig}
+use Rattle.alloc_rules.proofs.Common.{objects_at, Doing, Other, WeighSame, Books, One, MoveObjects, Asking, Giving, Next, Local, decided, goes, ends, publishes}
+use Rattle.alloc_rules.proofs.Common.{comes_to, serves, decides_free, behind, clears, About, HasNoLabel, call_about, MayDecide, MayGoOnDecided, says}
+use Rattle.alloc_rules.proofs.Common.{goes_or_ends, follows, BeginsWith, account_of, doing_about, HandAbout, StepShape, IsNext, IsAct, AreEntries, FrontRules}
+use Rattle.alloc_rules.proofs.Common.{Left, Parts, front_row, stock_of, Does, setup, IsBefore, FrontActsMove}
 use Rattle.call_steps.specs.declared.step.Giving.TheVariants as giving
 use Rattle.call_steps.specs.declared.step.Next.TheVariants as next
 use Rattle.call_steps.specs.declared.step.Step.TheVariants as does
@@ -15,6 +14,7 @@ use Rattle.alloc_rules.proofs.CutOf.{cut_of}
 use Rattle.alloc_rules.proofs.Goings.{HasFreed, Restocked, Silent, carries, comes_as, ends_as, frees_object, gets_object, other_doing, says_other}
 use Rattle.alloc_rules.proofs.Stored.{front_stored, stock_same, stores_move, with_stores}
 use Rattle.alloc_rules.proofs.Weighing.{bare, none_in_hand, quiet, weighs_same}
+use Rattle.std.proofs.lemmas.Bool.Decides.{nat_tests}
 
 -- an object at the head of a list is there
 begins_has : (a : Addr) (hand : List Addr) → BeginsWith a hand → 0 < objects_at a.0 hand
@@ -66,9 +66,7 @@ module _ {P V R : Type 0} {r : FrontRules P V R} {about : R → About} {planned 
     store = record { books = before.books; cut = cut_of r about r.calls.rows (with_stores p fronts p.shards) before.parts.classes before.parts.shards }
 
     objects : Moved hand came
-    objects =
-        stores_move r about p fronts k hand came (λ j n other. let e = front_stored r about p i q x.part at j n in omega (arith, e, act.others j n other))
-        (λ n. let e = front_stored r about p i q x.part at k n in omega (arith, e, act.moves n))
+    objects = grind (arith, stores_move r about p fronts k hand came, front_stored r about p i q x.part)
 
     same_or_none : (x.regs.class.0 ≡ k) ⊎ (came ≡ [])
     same_or_none = elim act.class [ inl same ↦ inl (ap (λ (c : Class). c.0) same) | inr none ↦ inr none.0 ]
@@ -106,13 +104,7 @@ module _ {P V R : Type 0} {r : FrontRules P V R} {about : R → About} {planned 
 
     -- a call without a label is decided: no object moves
     stays_stocked : came ≡ hand → stock_of r about p ≡ stock_of r about (with_stores p fronts p.shards)
-    stays_stocked same =
-        stock_same r about p fronts (λ j n.
-        let e = front_stored r about p i q x.part at j n in
-        elim (cases_eq j k) [
-          | inl here ↦ omega (arith, e, subst (λ (y : ℕ). r.stored x.part y n ≡ r.stored q y n) (sym here) (omega (arith, act.moves n, ap (objects_at n) same)))
-          | inr other ↦ omega (arith, e, act.others j n other)
-        ])
+    stays_stocked same = grind (arith, nat_tests, stock_same r about p fronts, front_stored r about p i q x.part)
 
     decides : (a : About) (answer : Answer) (to : Option R) → about row ≡ a → MayDecide a answer → came ≡ hand → MayGoOnDecided about to → (to ≡ None → came ≡ [])
         → Goal (goes_or_ends r.calls (says then (call_about a) answer) to)

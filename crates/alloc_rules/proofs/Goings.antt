@@ -1,12 +1,11 @@
 -- Where a call goes on with its hand: the account that it has then, its acts and its answers; and an allocation that gets an object.
 use Rattle.std.proofs.Common.{◌≡◌, ℕ, ◌+◌, ◌<◌, List, [], ◌∷◌, ◌++◌, Some, refl, sym, ap, ◌∙◌, subst, arith}
-use Rattle.alloc_rules.proofs.Common.{append-nil, Contents, class_of, Addr, Class, Label, Run, SpanRef, Malloc, Free, Planned, Block, Freed, Regs}
-use Rattle.alloc_rules.proofs.Common.{emptied, Shard, objects_at, small, Account, Doing, Asks, Publishes, Frees, Other, WeighSame, Setup}
-use Rattle.alloc_rules.proofs.Common.{Stock, Books, IsCut, size_of, Said, SaysOther, Move, MovesHand, FreesObject, GetsObject, GetsFirst, Rests, MoveObjects}
-use Rattle.alloc_rules.proofs.Common.{AddSpan, Asking, Freeing, Giving, Decided, decided, goes, ends, class_row, Local, to_hand, with_freed}
-use Rattle.alloc_rules.proofs.Common.{decides_free, behind, goes_onward, comes_to, serves, Parts, About}
-use Rattle.alloc_rules.proofs.Common.{HasNoLabel, about_giving, doing_about, account_of, stock_of, AreBooksOf, decided_at, Does, FrontCalls, AreEntries}
-use Rattle.alloc_rules.proofs.Common.{FrontRules, IsGiving, setup}
+use Rattle.alloc_rules.proofs.Common.{append-nil, Contents, class_of, Addr, Class, Label, Run, SpanRef, Malloc, Free, Planned, Block, Freed, Regs, emptied}
+use Rattle.alloc_rules.proofs.Common.{Shard, objects_at, small, Account, Doing, Asks, Publishes, Frees, Other, WeighSame, Setup, Stock, Books, IsCut, size_of}
+use Rattle.alloc_rules.proofs.Common.{Said, SaysOther, Move, MovesHand, FreesObject, GetsObject, GetsFirst, Rests, MoveObjects, AddSpan, Asking, Freeing}
+use Rattle.alloc_rules.proofs.Common.{Giving, Decided, decided, goes, ends, class_row, Local, to_hand, with_freed, decides_free, behind, goes_onward, comes_to}
+use Rattle.alloc_rules.proofs.Common.{serves, Parts, About, HasNoLabel, about_giving, doing_about, account_of, stock_of, AreBooksOf, decided_at, Does}
+use Rattle.alloc_rules.proofs.Common.{FrontCalls, AreEntries, FrontRules, IsGiving, setup}
 use Rattle.holdings.specs.Moves.{with_hand}
 use Rattle.call_steps.specs.declared.step.Giving.TheVariants as giving
 use Rattle.call_steps.specs.declared.step.MapStep.TheVariants as map
@@ -120,10 +119,7 @@ module _ {P V R : Type 0} {r : FrontRules P V R} {about : R → About} (entries 
 
   pub frees_object : {l : Local V R} (v : V) (regs : Regs) (freed : Contents SpanRef) (f : Freeing) {k : ℕ} {hand : List Addr} → account_of about l ≡ bare (Frees f.label f.addr) k hand l.rest
       → regs.hand.items ≡ [] → Moved k hand [] [] → Done l (ends r.calls (decided (record l { seat = v; regs = regs; freed = freed }) (Free f.label) (Freed f.addr)))
-  frees_object {l = l} v regs freed f {k = k} is none move =
-      let after : Local V R = decided (record l { seat = v; regs = regs; freed = freed }) (Free f.label) (Freed f.addr) in
-      let silent = ends_as r.calls about entries after k none in
-      frees_spans f [] is move silent.weighs silent.acts silent.answers
+  frees_object {l = l} v regs freed f {k = k} is none move = grind (arith, ends_as, frees_spans)
 
   -- a hand is given away, and perhaps spans leave
   module _ (l : Local V R) (bag : Contents SpanRef) where

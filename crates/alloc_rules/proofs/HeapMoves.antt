@@ -1,12 +1,11 @@
 -- What the acts at the page heap do to the books.
 use Rattle.std.proofs.Common.{◌≡◌, ℕ, ◌*◌, ◌<◌, ◌≤◌, List, [], ◌∷◌, drop, Contains, Option, Some, None, refl, sym, ap, ◌∙◌, subst, arith}
-use Rattle.alloc_rules.proofs.Common.{append-nil, page_bytes, pages_holding, Label, Run, SpanRef, Free, Release, Freed}
-use Rattle.alloc_rules.proofs.Common.{Released, CallLine, HeapConfig, Placed, new, release, free_leaves, release_keeps, address_of, run_of, runs_like, less}
-use Rattle.alloc_rules.proofs.Common.{Account, WeighSame, Setup, Books, GetsNone, GetsRun, GetsSpan, FreesRun, FreesSpan, Rests, One, like, less_counts}
-use Rattle.alloc_rules.proofs.Common.{Asking, New, NewSpan, GiveBack, FreeSpan, Unback, decided, class_row, Local, with_freed, clears, heap_row, after_new}
-use Rattle.alloc_rules.proofs.Common.{after_new_span, frees_span, without_first_span, FirstLives, FitsHeap, Planned, About, about_onward, account_of, doing_about}
-use Rattle.alloc_rules.proofs.Common.{first_run, AreEntries, FrontRules, Parts, Does, setup, IsBefore, Onward, HeapStep, IsOnward, HeapActsMove}
-use Rattle.alloc_rules.proofs.Common.{IsPlaced}
+use Rattle.alloc_rules.proofs.Common.{append-nil, page_bytes, pages_holding, Label, Run, SpanRef, Free, Release, Freed, Released, CallLine, HeapConfig, Placed}
+use Rattle.alloc_rules.proofs.Common.{new, release, free_leaves, release_keeps, address_of, run_of, runs_like, less, Account, WeighSame, Setup, Books, GetsNone}
+use Rattle.alloc_rules.proofs.Common.{GetsRun, GetsSpan, FreesRun, FreesSpan, Rests, One, like, less_counts, Asking, New, NewSpan, GiveBack, FreeSpan, Unback}
+use Rattle.alloc_rules.proofs.Common.{decided, class_row, Local, with_freed, clears, heap_row, after_new, after_new_span, frees_span, without_first_span}
+use Rattle.alloc_rules.proofs.Common.{FirstLives, FitsHeap, Planned, About, about_onward, account_of, doing_about, first_run, AreEntries, FrontRules, Parts}
+use Rattle.alloc_rules.proofs.Common.{Does, setup, IsBefore, Onward, HeapStep, IsOnward, HeapActsMove, IsPlaced}
 use Rattle.heap_rules.specs.Free.{freed}
 use Rattle.heap_rules.specs.Heap as heaps
 use Rattle.call_steps.specs.declared.step.Step.TheVariants as does

@@ -1,8 +1,8 @@
 -- Each local stays in its script: its act goes on in its call, or the next call comes.
 use Rattle.std.proofs.Common.{◌≡◌, ℕ, zero, suc, ◌+◌, ◌⊎◌, true, false, List, [], ◌∷◌, ◌++◌, length, drop, Option, Some, None, refl, sym, ap, ◌∙◌, inl, inr}
 use Rattle.std.proofs.Common.{arith, is_some, option_map, slice_get}
-use Rattle.alloc_rules.proofs.Common.{cases_lt, false≢true, append-nil, length-append, Call, Planned, NameState, state_of, asking, publishing, unpublished}
-use Rattle.alloc_rules.proofs.Common.{gets, is_out, Local, Decided, first_act, undecided, under, About, call_at, Step, FrontCalls, AreEntries, account_of}
+use Rattle.alloc_rules.proofs.Common.{cases_lt, false≢true, append-nil, length-append, Call, Planned, NameState, state_of, asking, unpublished}
+use Rattle.alloc_rules.proofs.Common.{is_out, Local, Decided, first_act, undecided, under, About, call_at, Step, FrontCalls, AreEntries, account_of}
 use Rattle.alloc_rules.proofs.Common.{doing_of, IsIn, GoesOn, Closes, Path, is_under_way}
 use Rattle.alloc_rules.proofs.ScriptFacts.{HasRow, asks_first, first_is_of, first_under, next_way, next_weighs, undecided_under}
 
@@ -66,11 +66,7 @@ module _ {V R : Type 0} (e : FrontCalls V R) (about : R → About) (entries : Ar
         out = λ j label size below is. stay label.0 (inside.out j label size (omega (arith, below, ended)) is);
         now = λ label size is. elim (inside.now label size (sym at ∙ is)) [
           | inl out ↦ inl (stay label.0 out)
-          | inr due ↦
-              (elim (keeps label.0) [
-                | inl same ↦ inr (omega (arith, due, same, ap (gets label.0) rest))
-                | inr out ↦ inl out
-              ])
+          | inr due ↦ grind (arith)
         ];
         count = ap length answers ∙ (goes_count new goes ∙ ap (λ n. n + under about after.step) (sym ended));
         decided = λ j d is. answered e about names script l inside new after.answers answers (goes_one new goes) (goes_few e about l.step after.step new goes) j d is;
@@ -91,9 +87,7 @@ module _ {V R : Type 0} (e : FrontCalls V R) (about : R → About) (entries : Ar
       let next = ap (call_at script) ended ∙ ap (option_map (λ (p : Planned). p.call)) (ap (slice_get script) first ∙ sym (inside.rest 0)) in
       let w = λ (x : ℕ). next_weighs e about entries after.seat x l.rest in
       record {
-        rest = λ j.
-            let e : l.ended + 1 + (1 + j) ≡ after.ended + 1 + j = omega (arith, ended) in
-            ap (λ xs. slice_get xs j) rest ∙ (rest_behind l.rest j ∙ (inside.rest (1 + j) ∙ ap (slice_get script) e));
+        rest = grind (arith, rest_behind l.rest);
         call = λ c is. next ∙ first_is_of e about entries after.seat o c (sym (ap (undecided about) step) ∙ is);
         some = λ on. ap is_some next ∙ (sym (next_way e about entries after.seat o there) ∙ (sym (ap is_under_way step) ∙ on));
         none = λ off. next ∙ no_call o (sym (next_way e about entries after.seat o there) ∙ (sym (ap is_under_way step) ∙ off));
@@ -103,13 +97,7 @@ module _ {V R : Type 0} (e : FrontCalls V R) (about : R → About) (entries : Ar
               (let e : j ≡ l.ended = omega (arith, below, last, ended) in
               elim (inside.now label size (ap (call_at script) (sym e) ∙ is)) [
                 | inl out ↦ stay label.0 out
-                | inr due ↦
-                    (elim (keeps label.0) [
-                      | inl same ↦
-                          (let doing = ap (doing_of about) step in
-                          absurd (omega (arith, due, same, ap (asking label.0) doing, ap (publishing label.0) doing, ap (gets label.0) rest, (w label.0).0, (w label.0).1)))
-                      | inr out ↦ out
-                    ])
+                | inr due ↦ grind (arith, w label.0)
               ])
         ];
         now = λ label size is. inr (omega (arith, asks_first e about entries after.seat o label size (sym next ∙ is), ap (λ s. asking label.0 (doing_of about s)) step));

@@ -4,6 +4,7 @@ use Rattle.std.proofs.Common.{sum_by, All}
 use Rattle.alloc_rules.proofs.Common.{range_with_len, cases_eq, eq-eqb, ne_eqb, append-nil, All-nil, All-cons, sum_by-cons, sum_by-append, append_snoc, Call}
 use Rattle.alloc_rules.proofs.Common.{Planned, Asked, ThreadCall, script_of, label_end, labels_of, bit_most}
 use Rattle.alloc_rules.proofs.Common.{sum_of_both, got, put, gets, puts, ClassRow, got_in, put_in, IsInOrder, IsValid}
+use Rattle.std.proofs.lemmas.Bool.Decides.{nat_tests}
 
 -- what holds of each call of a trace
 abbrev pub EachOf : List ThreadCall → (ThreadCall → Type 0) → Type 0
@@ -18,10 +19,7 @@ one_in : (k v a n : ℕ) → a ≤ k → k < a + n → sum_by (λ t. cond (eqb k
 one_in k v a zero low high = absurd (omega arith)
 one_in k v a (suc n) low high =
     let c = sum_by-cons (λ t. cond (eqb k t) v 0) a (range_with_len (a + 1) n) in
-    elim (cases_eq k a) [
-      | inl same ↦ (let e : cond (eqb k a) v 0 ≡ v = rw (eq-eqb k a same) refl in omega (arith, c, e, none_in k v (a + 1) n (omega arith)))
-      | inr other ↦ (let e : cond (eqb k a) v 0 ≡ 0 = rw (ne_eqb k a other) refl in omega (arith, c, e, one_in k v (a + 1) n (omega (arith, other)) (omega arith)))
-    ]
+    grind (arith, nat_tests, one_in k v (a + 1) n, none_in k v (a + 1) n)
 
 sum-zero : {X : Type 0} (f : X → ℕ) (xs : List X) → ((x : X) → f x ≡ 0) → sum_by f xs ≡ 0
 sum-zero f [] none = refl
@@ -93,12 +91,15 @@ module _ (rows : List ClassRow) (planned : Planned → Type 0) where
       let a = adds x earlier c.planned.call order.0 in
       let g = got_push x earlier c in
       let p = put_push x earlier c in
-      let next : Counts x (earlier ++ c ∷ []) = record {
-        got_once = omega (arith, g, a.got_once so_far.got_once);
-        put_once = omega (arith, p, a.put_once so_far.put_once);
-        got_first = λ some.
-            first_of_either (put_in x earlier) (put x c.planned.call) (omega (arith, some, p)) (λ old. omega (arith, g, so_far.got_first old)) (λ own. omega (arith, g, a.got_first own));
-      } in
+      let next : Counts x (earlier ++ c ∷ []) =
+      grind (
+        arith,
+        a.got_once so_far.got_once,
+        a.put_once so_far.put_once,
+        first_of_either (put_in x earlier) (put x c.planned.call),
+        so_far.got_first,
+        a.got_first,
+      ) in
       subst (Counts x) (append_snoc earlier c cs) (counts x (earlier ++ c ∷ []) cs order.1 next)
 
   counted : (asked : Asked) (x : ℕ) → IsValid rows planned asked → Counts x asked.calls
@@ -117,10 +118,7 @@ module _ (rows : List ClassRow) (planned : Planned → Type 0) where
 
   got_below : (x most : ℕ) (cs : List ThreadCall) → 0 < got_in x cs → x < fold (λ n (c : ThreadCall). max n (label_end c.planned.call)) most cs
   got_below x most [] some = absurd (omega arith)
-  got_below x most (c ∷ cs) some =
-      first_of_either (got x c.planned.call) (got_in x cs) (omega (arith, some, sum_by-cons (λ (d : ThreadCall). got x d.planned.call) c cs))
-      (λ own. omega (arith, got_end x c.planned.call own, fold_least (max most (label_end c.planned.call)) cs))
-      (λ later. got_below x (max most (label_end c.planned.call)) cs later)
+  got_below x most (c ∷ cs) some = grind (arith, got_below x (max most (label_end c.planned.call)) cs, first_of_either, got_end, fold_least)
 
   -- each label is allocated once and freed once, and is one of the names
   pub record IsOnce (asked : Asked) : Type 0 where

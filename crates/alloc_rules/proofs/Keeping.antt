@@ -2,12 +2,11 @@
 use Rattle.std.proofs.Common.{◌≡◌, ℕ, ◌+◌, ◌<◌, ◌≤◌, List, [], ◌∷◌, length, drop, Option, Some, None, refl, ap, ◌∙◌, arith, Bool}
 use Rattle.std.proofs.Common.{cond, ltb, All, slice_set, option_map}
 use Rattle.alloc_rules.proofs.Common.{length-drop, All-head, All-tail, Contents, class_of, ClassRow, position_or_len, ltb-true, Addr, Class, Label, ThreadNo}
-use Rattle.alloc_rules.proofs.Common.{SpanRef, Call, Malloc, Planned, Block, Regs, HAND_ROOM, LOADED_ROOM, room}
-use Rattle.alloc_rules.proofs.Common.{without_first, Asking, Serving, Giving, Onward, Step, Local, step_or, class_row, first_of_malloc}
-use Rattle.alloc_rules.proofs.Common.{first_of_call, regs_of_malloc, fresh_regs, next_call, decided, goes, closes, ends, publishes, stocks}
-use Rattle.alloc_rules.proofs.Common.{serves_first, goes_onward, gave, clears, given_back, to_hand, About, HasNoLabel, AreRows, At}
-use Rattle.alloc_rules.proofs.Common.{Here, Later, Away, Standing, stand, at_row, at_giving, at_onward, at_step, standing_of, HandAbout, HasNone}
-use Rattle.alloc_rules.proofs.Common.{IsGiving, IsOnward, StepShape, IsShaped, IsOwn, IsLawful, FrontRules, IsEntry, KeepsHand}
+use Rattle.alloc_rules.proofs.Common.{SpanRef, Call, Malloc, Planned, Block, Regs, HAND_ROOM, LOADED_ROOM, room, without_first, Asking, Serving, Giving, Onward}
+use Rattle.alloc_rules.proofs.Common.{Step, Local, step_or, class_row, first_of_malloc, first_of_call, regs_of_malloc, fresh_regs, next_call, decided, goes}
+use Rattle.alloc_rules.proofs.Common.{closes, ends, publishes, stocks, serves_first, goes_onward, gave, clears, given_back, to_hand, About, HasNoLabel, AreRows}
+use Rattle.alloc_rules.proofs.Common.{At, Here, Later, Away, Standing, stand, at_row, at_giving, at_onward, at_step, standing_of, HandAbout, HasNone, IsGiving}
+use Rattle.alloc_rules.proofs.Common.{IsOnward, StepShape, IsShaped, IsOwn, IsLawful, FrontRules, IsEntry, KeepsHand}
 use Rattle.tc_units.specs.Classes as classes
 use Rattle.call_steps.specs.declared.step.Step.TheVariants as does
 use Rattle.call_steps.specs.declared.step.NamesStep.TheVariants as names

@@ -1,10 +1,10 @@
 -- What is counted in the heap's sorted runs and in the map's sorted spans, as one comes or goes.
-use Rattle.std.proofs.Common.{◌≡◌, ℕ, zero, suc, ◌+◌, ◌<◌, ◌≤◌, Bool, true, eqb, cond, List, [], ◌∷◌, get_or, count_by, Contains, sym, ap, ◌∙◌, inl, inr}
-use Rattle.std.proofs.Common.{arith}
-use Rattle.alloc_rules.proofs.Common.{cases_Bool, eq-eqb, Run, SpanRef, count-with_item, count-without, bit, same_run, same_span, runs_like, spans_like}
+use Rattle.std.proofs.Common.{◌≡◌, ℕ, zero, suc, ◌+◌, ◌<◌, ◌≤◌, Bool, true, eqb, List, [], ◌∷◌, count_by, Contains, sym, ap, ◌∙◌, inl, inr, arith}
+use Rattle.alloc_rules.proofs.Common.{cases_Bool, Run, SpanRef, count-with_item, count-without, bit, same_run, same_span, runs_like, spans_like}
 use Rattle.alloc_rules.proofs.Common.{Counts, like, like_span, same_run_is, same_run_refl, same_span_is, same_span_refl}
 use Rattle.tc_units.specs.Sorted.{with_item, without_key}
 use Rattle.alloc_rules.proofs.Counting.{bit_cond, runs_count, spans_count}
+use Rattle.std.proofs.lemmas.Bool.Decides.{nat_tests}
 
 -- what is counted is there, and what is there is counted
 module _ {X : Type 0} (same : X → X → Bool) (is : (x y : X) → same x y ≡ true → x ≡ y) (one : (x : X) → same x x ≡ true)
@@ -42,11 +42,7 @@ module _ {X : Type 0} (same : X → X → Bool) (key : X → ℕ) {often : X →
   with_one x xs r = omega (arith, count r (with_item key x xs), count r xs, count-with_item key (λ y. same y r) x xs, bit_cond (same x r))
 
   without_one : (x : X) (xs : List X) (r : X) → (at : Contains xs x) → count_by (λ y. eqb (key y) (key x)) xs ≤ 1 → often r (without_key key (key x) xs) + bit (same x r) ≡ often r xs
-  without_one x xs r at most =
-      let own : eqb (key (get_or xs at.0 x)) (key x) ≡ true = eq-eqb (key (get_or xs at.0 x)) (key x) (ap key at.2) in
-      let e = count-without (λ y. same y r) (λ y. eqb (key y) (key x)) xs at.0 x at.1 own most in
-      let g : cond {A = ℕ} (same (get_or xs at.0 x) r) 1 0 ≡ cond (same x r) 1 0 = ap (λ y. cond (same y r) 1 0) at.2 in
-      omega (arith, count r (without_key key (key x) xs), count r xs, e, g, bit_cond (same x r))
+  without_one x xs r at most = grind (arith, nat_tests, count-without (λ y. same y r) (λ y. eqb (key y) (key x)) xs at.0 x at.1, bit_cond (same x r))
 
 pub like-with_run : (x : Run) (xs : List Run) (r : Run) → runs_like r (with_item (λ y. y.first.0) x xs) ≡ bit (same_run x r) + runs_like r xs
 like-with_run x xs r = with_one same_run (λ y. y.first.0) runs_count x xs r

@@ -1,12 +1,12 @@
 -- Members of lists: which pass a test, that one alone begins at a page, and that the one holder of a page is found.
 use Rattle.std.proofs.Common.{◌≡◌, ℕ, suc, ◌+◌, ◌<◌, ◌≤◌, Bool, true, false, eqb, ltb, nat_le, cond, List, [], ◌∷◌, length, get_or, count_by, AllPairs}
-use Rattle.std.proofs.Common.{Contains, Some, refl, sym, ap, ◌∙◌, inl, inr, arith, find}
-use Rattle.alloc_rules.proofs.Common.{cases_Bool, cases_lt, ltb-true, leb-true, eqb-true, and_parts, false≢true, get_or_default, sum_by-cons}
-use Rattle.alloc_rules.proofs.Common.{false_from_ne_true, Run, SpanRef, one-true, one-false, count_none, count_le, IsWellFormed, IsSound, IsInside}
-use Rattle.alloc_rules.proofs.Common.{holds_from}
+use Rattle.std.proofs.Common.{Contains, Some, refl, ap, ◌∙◌, inl, inr, arith, find}
+use Rattle.alloc_rules.proofs.Common.{cases_Bool, ltb-true, leb-true, eqb-true, and_parts, false≢true, get_or_default, sum_by-cons, false_from_ne_true, Run}
+use Rattle.alloc_rules.proofs.Common.{SpanRef, one-true, one-false, count_none, count_le, IsWellFormed, IsSound, IsInside, holds_from}
 use Rattle.page_map.specs.Spans.{IsBefore}
 use Rattle.page_map.specs.Spans as spans
 use Rattle.heap_rules.specs.Heap as heaps
+use Rattle.std.proofs.lemmas.Bool.Decides.{nat_tests}
 
 -- fewer pass a test that another follows from
 count_fewer : {X : Type 0} (q h : X → Bool) (xs : List X) → ((k : ℕ) (d : X) → k < length xs → q (get_or xs k d) ≡ true → h (get_or xs k d) ≡ true)
@@ -62,11 +62,4 @@ only_holder page xs x y apart xt yt hx hy =
     let px = holds_parts page x hx in
     let py = holds_parts page y hy in
     let ex : get_or xs xt.0 y ≡ x = get_or_default xs xt.0 y x xt.1 ∙ xt.2 in
-    elim (cases_lt xt.0 yt.0) [
-      | inl less ↦ absurd (let d : IsBefore x y = rw (ex, yt.2) at (apart xt.0 yt.0 y less yt.1) in omega (arith, d, px.0, px.1, py.0, py.1))
-      | inr above ↦
-          (elim (cases_lt yt.0 xt.0) [
-            | inl less ↦ absurd (let d : IsBefore y x = rw (ex, yt.2) at (apart yt.0 xt.0 y less xt.1) in omega (arith, d, px.0, px.1, py.0, py.1))
-            | inr below ↦ (let same : xt.0 ≡ yt.0 = omega arith in sym yt.2 ∙ (ap (λ i. get_or xs i y) (sym same) ∙ ex))
-          ])
-    ]
+    grind (arith, nat_tests, apart xt.0 yt.0 y, apart yt.0 xt.0 y)

@@ -1,12 +1,11 @@
 -- What the acts at the page map do to the books.
 use Rattle.std.proofs.Common.{◌≡◌, ℕ, ◌/◌, ◌<◌, true, List, [], ◌∷◌, ◌++◌, drop, Contains, refl, sym, ap, ◌∙◌, subst, inl, inr, arith}
-use Rattle.alloc_rules.proofs.Common.{append-nil, page_bytes, Addr, Label, Run, SpanRef, SpanKind, Small, Large, CallLine, SpanMap, holds}
-use Rattle.alloc_rules.proofs.Common.{without_span, HeapConfig, find_there, address_of, run_of, large, small, spans_like, without, Account, Holds, Frees}
-use Rattle.alloc_rules.proofs.Common.{WeighSame, Setup, Books, class_number, Found, SetsRun, SetsSpan, FindsObject, FindsRun, ClearsRun, ClearsSpan}
-use Rattle.alloc_rules.proofs.Common.{like_span, without_counts, is_large, frees_find, Asking, Set, SetSpan, Lookup, Clear, ClearSpan, map_row}
-use Rattle.alloc_rules.proofs.Common.{found, clears_span, FirstIsThere, FitsMap, Planned, Local, About, about_onward, account_of, doing_about, first_run, AreEntries}
-use Rattle.alloc_rules.proofs.Common.{FrontRules, Parts, Does, setup, IsBefore, Contents, Class, Regs, appended, Freeing, Onward, MapStep}
-use Rattle.alloc_rules.proofs.Common.{with_regs, MapActsMove, with_span, without_span}
+use Rattle.alloc_rules.proofs.Common.{append-nil, page_bytes, Addr, Label, Run, SpanRef, SpanKind, Small, Large, CallLine, SpanMap, holds, without_span}
+use Rattle.alloc_rules.proofs.Common.{HeapConfig, find_there, address_of, run_of, large, small, spans_like, without, Account, Holds, Frees, WeighSame, Setup}
+use Rattle.alloc_rules.proofs.Common.{Books, class_number, Found, SetsRun, SetsSpan, FindsObject, FindsRun, ClearsRun, ClearsSpan, like_span, without_counts}
+use Rattle.alloc_rules.proofs.Common.{is_large, frees_find, Asking, Set, SetSpan, Lookup, Clear, ClearSpan, map_row, found, clears_span, FirstIsThere, FitsMap}
+use Rattle.alloc_rules.proofs.Common.{Planned, Local, About, about_onward, account_of, doing_about, first_run, AreEntries, FrontRules, Parts, Does, setup}
+use Rattle.alloc_rules.proofs.Common.{IsBefore, Contents, Class, Regs, appended, Freeing, Onward, MapStep, with_regs, MapActsMove, with_span, without_span}
 use Rattle.call_steps.specs.declared.step.Step.TheVariants as does
 use Rattle.call_steps.specs.declared.step.Giving.TheVariants as giving
 use Rattle.call_steps.specs.declared.step.ShardStep.TheVariants as shard

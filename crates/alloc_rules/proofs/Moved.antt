@@ -1,7 +1,7 @@
 -- A move over the books of the parts.
-use Rattle.std.proofs.Common.{◌≡◌, ℕ, ◌+◌, ◌++◌, ◌*◌, false, List, None, ap, subst, find, is_some, arith}
+use Rattle.std.proofs.Common.{◌≡◌, ℕ, ◌+◌, ◌++◌, ◌*◌, false, List, None, ap, find, is_some, arith}
 use Rattle.alloc_rules.proofs.Common.{cases_lt, lt-ltb, slice_get_past, page_bytes, pages_holding, class_of, length_by, length_of, Run}
-use Rattle.alloc_rules.proofs.Common.{SpanRef, ClassRow, NameState, Setup, Stock, Books, Said, Move, Parts, AreBooksOf, About}
+use Rattle.alloc_rules.proofs.Common.{SpanRef, ClassRow, NameState, Setup, Books, Said, Move, Parts, AreBooksOf, About}
 use Rattle.alloc_rules.proofs.Common.{FrontRules, SpanMap, Local, Does, account_of, decided_at, runs_like, spans_like}
 use Rattle.std.proofs.lemmas.List.Folds.{find_at}
 use Rattle.heap_rules.specs.Heap as heaps
@@ -19,9 +19,7 @@ leaves {about = about} {m = m} {p = p} {b = b} {heap = heap} {spans = spans} {sa
       heap = heap;
       spans = spans;
       said = said;
-      move =
-          subst (λ (g : Stock). Move m b (account_of about l) g heap spans (f p.names) (account_of about after) said) books.stock
-          (subst (λ (ns : List NameState). Move m b (account_of about l) b.stock heap spans (f ns) (account_of about after) said) books.names move);
+      move = grind (arith, f p.names);
       like_heap = like_heap;
       like_spans = like_spans;
       acts = acts;

@@ -1,11 +1,12 @@
 -- Reads and writes of parts by their numbers.
-use Rattle.std.proofs.Common.{◌≡◌, ℕ, zero, suc, ◌+◌, ◌-◌, ◌<◌, ◌≤◌, Bool, cond, ltb, List, [], ◌∷◌, ◌++◌, length, map, take, drop, Some, refl, sym, ap, ◌∙◌}
-use Rattle.std.proofs.Common.{inl, inr, arith, option_map, slice_get, slice_set}
-use Rattle.alloc_rules.proofs.Common.{cases_lt, lt-ltb, le-ltb, SpanMap, NameState, Part, Front, Heap, Map, Names, Parts, parts_of, middle_of}
+use Rattle.std.proofs.Common.{◌≡◌, ℕ, zero, suc, ◌+◌, ◌-◌, ◌<◌, ◌≤◌, cond, ltb, List, [], ◌∷◌, ◌++◌, length, map, take, drop, Some, refl, sym, ap, ◌∙◌}
+use Rattle.std.proofs.Common.{arith, option_map, slice_get, slice_set}
+use Rattle.alloc_rules.proofs.Common.{SpanMap, NameState, Part, Front, Heap, Map, Names, Parts, parts_of, middle_of}
 use Rattle.alloc_rules.specs.declared.part.Part.TheVariants.{Shard}
 use Rattle.heap_rules.specs.Heap as heaps
 use Rattle.class_shard.specs.Shard as shards
 use Rattle.alloc_rules.proofs.Sets.{map_set}
+use Rattle.std.proofs.lemmas.Bool.Decides.{nat_tests}
 
 -- of two lists joined, where the first is of images
 get_left : {X Y : Type 0} (f : X → Y) (xs : List X) (ys : List Y) (i : ℕ) → i < length xs → slice_get (map f xs ++ ys) i ≡ option_map f (slice_get xs i)
@@ -102,18 +103,13 @@ module _ {P : Type 0} (split : ℕ) (p : Parts P) (few : split ≤ length p.fron
   get_first i low = get_left Front first rest i (omega (arith, many, low)) ∙ ap (option_map Front) (get_take split p.fronts i low)
 
   set_first : (i : ℕ) (q : P) → i < split → slice_set (parts_of split p) i (Front q) ≡ parts_of split (record p { fronts = slice_set p.fronts i q })
-  set_first i q low =
-      set_left Front first rest i q (omega (arith, many, low))
-      ∙ (ap (λ (xs : List P). map Front xs ++ rest) (set_take split p.fronts i q low)
-      ∙ ap (λ (xs : List P). map Front (take split (slice_set p.fronts i q)) ++ (map Shard p.shards ++ (middle_of p ++ map Front xs))) (sym (drop_below split p.fronts i q low)))
+  set_first i q low = grind (arith, set_left Front first rest i q, many, set_take split p.fronts i q low, drop_below split p.fronts i q low)
 
   pub get_shard : (k : ℕ) → k < length p.shards → slice_get (parts_of split p) (split + k) ≡ option_map Shard (slice_get p.shards k)
   get_shard k low = ap (λ (n : ℕ). slice_get (parts_of split p) (n + k)) (sym many) ∙ (get_right Front first rest k ∙ get_left Shard p.shards behind k low)
 
   pub set_shard : (k : ℕ) (x : shards.Shard) → k < length p.shards → slice_set (parts_of split p) (split + k) (Shard x) ≡ parts_of split (record p { shards = slice_set p.shards k x })
-  set_shard k x low =
-      ap (λ (n : ℕ). slice_set (parts_of split p) (n + k) (Shard x)) (sym many)
-      ∙ (set_right Front first rest k (Shard x) ∙ ap (λ zs. map Front first ++ zs) (set_left Shard p.shards behind k x low))
+  set_shard k x low = grind (arith, many, set_right Front first rest k (Shard x), set_left Shard p.shards behind k x low)
 
   -- the part of number i behind all shards
   get_behind : (i n : ℕ) → n ≡ split + (length p.shards + i) → slice_get (parts_of split p) n ≡ slice_get behind i
@@ -158,15 +154,7 @@ module _ {P : Type 0} (split : ℕ) (p : Parts P) (few : split ≤ length p.fron
 
   -- a part of the front-end by its number among those
   pub get_front : (i : ℕ) → slice_get (parts_of split p) (front_number split (length p.shards) i) ≡ option_map Front (slice_get p.fronts i)
-  get_front i =
-      elim (cases_lt i split) [
-        | inl low ↦ ap (λ (b : Bool). slice_get (parts_of split p) (cond b i (i + length p.shards + 3))) (lt-ltb i split low) ∙ get_first i low
-        | inr high ↦ ap (λ (b : Bool). slice_get (parts_of split p) (cond b i (i + length p.shards + 3))) (le-ltb i split high) ∙ get_last (i - split) i (omega (arith, high))
-      ]
+  get_front i = grind (arith, nat_tests, get_first i, get_last (i - split) i)
 
   pub set_front : (i : ℕ) (q : P) → slice_set (parts_of split p) (front_number split (length p.shards) i) (Front q) ≡ parts_of split (record p { fronts = slice_set p.fronts i q })
-  set_front i q =
-      elim (cases_lt i split) [
-        | inl low ↦ ap (λ (b : Bool). slice_set (parts_of split p) (cond b i (i + length p.shards + 3)) (Front q)) (lt-ltb i split low) ∙ set_first i q low
-        | inr high ↦ ap (λ (b : Bool). slice_set (parts_of split p) (cond b i (i + length p.shards + 3)) (Front q)) (le-ltb i split high) ∙ set_last (i - split) i q (omega (arith, high))
-      ]
+  set_front i q = grind (arith, nat_tests, set_first i q, set_last (i - split) i q)

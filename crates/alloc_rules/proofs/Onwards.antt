@@ -1,8 +1,7 @@
 -- How a call goes on behind its last span, and what that makes of its account.
-use Rattle.std.proofs.Common.{◌≡◌, List, [], refl, sym, subst, arith}
+use Rattle.std.proofs.Common.{◌≡◌, List, [], sym, subst, arith}
 use Rattle.alloc_rules.proofs.Common.{Addr, ClassRow, Other, Onward, FrontCalls, AreEntries, Local, ends, goes_onward, About}
 use Rattle.alloc_rules.proofs.Common.{about_onward, doing_about, IsOnward}
-use Rattle.call_steps.specs.declared.step.Onward.TheVariants as onward
 use Rattle.alloc_rules.proofs.Weighing.{bare, quiet, weighs_same}
 use Rattle.alloc_rules.proofs.Goings.{Silent, comes_as, ends_as, other_doing}
 
@@ -16,6 +15,4 @@ module _ {V R : Type 0} (e : FrontCalls V R) (about : R → About) (entries : Ar
 
   pub onward_silent : (rows : List ClassRow) (l : Local V R) (next : Onward R) → IsOnward rows about next → l.regs.hand.items ≡ []
       → Silent about l (goes_onward e l next) (bare (doing_about (about_onward about next)) l.regs.class.0 l.regs.hand.items l.rest)
-  onward_silent rows l (onward.Publish s) is none = record { weighs = weighs_same _; acts = refl; answers = refl }
-  onward_silent rows l (onward.Row k row) is none = grind (arith, bare, closed, comes_as, other_doing)
-  onward_silent rows l onward.End is none = ends_silent l none
+  onward_silent rows l next is none = grind (arith, weighs_same, bare, closed, comes_as, other_doing, ends_silent)

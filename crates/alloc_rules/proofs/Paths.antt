@@ -27,10 +27,6 @@ use Rattle.call_steps.specs.Calls as calls
 first_some : (h : heaps.Heap) (xs : List SpanRef) → FirstLives h xs → 0 < length xs
 first_some h xs lives = grind arith
 
--- a step of a call counts as its call says
-under_is : {R : Type 0} (about : R → About) (s : Step R) → is_under_way s ≡ true → under about s ≡ without_call (undecided about s)
-under_is about s way = grind (arith, false≢true)
-
 -- a local that has decided no more
 record Keeps {V R : Type 0} (l x : Local V R) : Type 0 where
   answers : x.answers ≡ l.answers
@@ -60,18 +56,14 @@ Of about s o (d ∷ e ∷ more) = ⊥
 
 module _ {V R : Type 0} (e : FrontCalls V R) (about : R → About) (s : Step R) where
   goes_of : (next : Step R) → is_under_way next ≡ true → (new : List Decided) → Of about s (undecided about next) new → GoesOn e about s next new
-  goes_of next way [] of = (sym of.0, under_is about next way ∙ sym of.1)
-  goes_of next way (d ∷ []) of = (of.0, of.1, under_is about next way ∙ ap without_call of.1)
-  goes_of next way (d ∷ e ∷ more) of = absurd of
+  goes_of next way new of = grind (arith)
 
   -- with a row of the front-end
   enters : (row : R) (a : About) → about row ≡ a → (new : List Decided) → Of about s (call_about a) new → GoesOn e about s (does.Front row) new
   enters row a is new of = goes_of (does.Front row) refl new (subst (λ (b : About). Of about s (call_about b) new) (sym is) of)
 
   closes_of : (new : List Decided) → Of about s None new → Closes e about s new
-  closes_of [] of = (of.1, of.0)
-  closes_of (d ∷ []) of = of.0
-  closes_of (d ∷ e ∷ more) of = absurd of
+  closes_of new of = grind (arith)
 
 module _ {V R : Type 0} {e : FrontCalls V R} {about : R → About} (entries : AreEntries e about) {l : Local V R} where
   go : {x : Local V R} {new : List Decided} (next : Step R) → IsFrom l x new → is_under_way next ≡ true → Of about l.step (undecided about next) new → Path e about l (goes x next)

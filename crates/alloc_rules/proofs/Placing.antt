@@ -1,11 +1,10 @@
 -- A new run may be placed where the heap places it: it lies in the arena and meets no live run.
-use Rattle.std.proofs.Common.{◌≡◌, ℕ, ◌+◌, ◌*◌, ◌<◌, ◌≤◌, true, false, List, get_or, Contains, Option, Some, ap, ◌∙◌, subst, arith, inl, inr}
-use Rattle.std.proofs.Common.{MatchOption}
-use Rattle.alloc_rules.proofs.Common.{cases_lt, lt-ltb, le-ltb, and_from, and_left, and_right, false≢true, page_bytes, Run, count_some, meets, Placed, new}
-use Rattle.alloc_rules.proofs.Common.{none_fits, IsSound, IsInside, IsGiven, new_gives, unused_counts, holds_from, runs_like, runs_at, block_of, IsPlaced}
-use Rattle.alloc_rules.proofs.Common.{run_found, All-contains}
+use Rattle.std.proofs.Common.{◌≡◌, ℕ, ◌+◌, ◌*◌, ◌<◌, ◌≤◌, true, false, List, Contains, Option, Some, arith, MatchOption}
+use Rattle.alloc_rules.proofs.Common.{cases_lt, lt-ltb, and_from, false≢true, page_bytes, Run, count_some, meets, Placed, new, none_fits, IsSound, IsGiven}
+use Rattle.alloc_rules.proofs.Common.{new_gives, unused_counts, holds_from, runs_like, runs_at, block_of, IsPlaced, run_found}
 use Rattle.heap_rules.specs.Heap as heaps
 use Rattle.alloc_rules.proofs.Likes.{counted_there}
+use Rattle.std.proofs.lemmas.Bool.Decides.{nat_tests}
 
 -- what the law of a new run says of one that is given
 abbrev pub IsAnswered : heaps.Heap → ℕ → Option Placed → Type 0
@@ -22,26 +21,17 @@ end r = r.first.0 * page_bytes + r.pages * page_bytes
 apart_blocks : (heap : heaps.Heap) (r b : Run) → IsSound heap → 0 < r.pages → ((page : ℕ) → heaps.holds page r ≡ true → heaps.is_used heap.runs page ≡ false)
     → Contains heap.runs b → meets (block_of r) (block_of b) ≡ false
 apart_blocks heap r b sound some unused at =
-    let ib : IsInside heap.config.huge b = All-contains (IsInside heap.config.huge) heap.runs b sound.runs.inside at in
-    let clash : (page : ℕ) → heaps.holds page r ≡ true → heaps.holds page b ≡ true → ⊥ =
-    λ page hr hb.
-    let none = unused_counts heap.runs page (unused page hr) in
-    let e : heaps.holds page (get_or heap.runs at.0 b) ≡ true = ap (heaps.holds page) at.2 ∙ hb in
-    let one = count_some (heaps.holds page) heap.runs at.0 b at.1 e in
-    omega arith
-    in
-    elim (cases_lt r.first.0 (b.first.0 + b.pages)) [
-      | inr behind ↦ and_left _ _ (le-ltb (begin r) (end b) (omega arith))
-      | inl early ↦
-          (elim (cases_lt b.first.0 (r.first.0 + r.pages)) [
-            | inr before ↦ and_right _ _ (le-ltb (begin b) (end r) (omega arith))
-            | inl late ↦
-                (elim (cases_lt r.first.0 b.first.0) [
-                  | inl first ↦ absurd (clash b.first.0 (holds_from b.first.0 r (omega arith) late) (holds_from b.first.0 b (omega arith) (omega (arith, ib.some))))
-                  | inr later ↦ absurd (clash r.first.0 (holds_from r.first.0 r (omega arith) (omega arith)) (holds_from r.first.0 b later early))
-                ])
-          ])
-    ]
+    grind (
+      arith,
+      nat_tests,
+      unused_counts heap.runs,
+      unused,
+      count_some,
+      holds_from b.first.0 r,
+      holds_from b.first.0 b,
+      holds_from r.first.0 r,
+      holds_from r.first.0 b,
+    )
 
 pub given_at : (heap : heaps.Heap) (n : ℕ) (x : Placed) → new heap n ≡ Some x → IsAnswered heap n (new heap n) → IsGiven heap n x
 given_at heap n x some law = grind arith
@@ -59,17 +49,4 @@ pub placed : (heap : heaps.Heap) (bag : List Run) (huge n : ℕ) (x : Placed) �
     → ((r : Run) → runs_like r bag ≡ runs_like r heap.runs) → 0 < n → new heap n ≡ Some x → IsGiven heap n x × IsPlaced huge bag n x.run
 placed heap bag huge n x sound region is like some given_is =
     let given = given_at heap n x given_is (new_gives heap n sound region some) in
-    let r : Run = x.run in
-    let some' : 0 < r.pages = omega (arith, given.pages) in
-    let inside : IsInside huge r = subst (λ (k : ℕ). IsInside k r) is given.inside in
-    let there : (b : Run) → 0 < runs_like b bag → Contains heap.runs b = λ b live. counted_there b heap.runs (omega (arith, live, like b)) in
-    let apart = λ (b : Run) (live : 0 < runs_like b bag). apart_blocks heap r b sound some' given.unused (there b live) in (
-      given,
-      record {
-        pages = given.pages;
-        some = some';
-        inside = record { some = omega (arith, inside.some); from = omega (arith, inside.from); to = omega (arith, inside.to) };
-        apart = apart;
-        fresh = none_begins bag r some' (λ b live. (All-contains (IsInside heap.config.huge) heap.runs b sound.runs.inside (there b live)).some) apart;
-      },
-    )
+    grind (arith, counted_there, like, apart_blocks heap, none_begins bag)

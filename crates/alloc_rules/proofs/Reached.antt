@@ -1,11 +1,10 @@
 -- The part that a thread wants is there, its act fits, and what it leaves keeps all that holds.
 use Rattle.std.proofs.Common.{◌≡◌, ℕ, zero, suc, ◌+◌, ◌<◌, ◌≤◌, false, List, [], ◌∷◌, length, map, Some, refl, sym, ap, ◌∙◌, subst, arith, option_map}
 use Rattle.std.proofs.Common.{slice_get, slice_set}
-use Rattle.alloc_rules.proofs.Common.{Planned, PartNo, Asked, world_of, with_pair, Regs, Books, Step, ShardStep, HeapStep}
-use Rattle.alloc_rules.proofs.Common.{MapStep, NamesStep, Local, About, target_at, shard_row, heap_row, map_row, names_row, shard_after, heap_after}
-use Rattle.alloc_rules.proofs.Common.{map_after, names_after, waits_for, front_row, front_after, Part, Front, Heap, Map, Names, number_of, Parts, parts_of}
-use Rattle.alloc_rules.proofs.Common.{after, waits, Standing, standing_of, FitsAt, IsLawful, FrontRules, Fits, fits_step, FitsShardStep}
-use Rattle.alloc_rules.proofs.Common.{FitsHeapStep, FitsMapStep, FitsNamesStep, FitsFrontStep, IsValid}
+use Rattle.alloc_rules.proofs.Common.{Planned, PartNo, Asked, world_of, with_pair, Regs, Books, Step, ShardStep, HeapStep, MapStep, NamesStep, Local, About}
+use Rattle.alloc_rules.proofs.Common.{target_at, shard_row, heap_row, map_row, names_row, shard_after, heap_after, map_after, names_after, waits_for, front_row}
+use Rattle.alloc_rules.proofs.Common.{front_after, Part, Front, Heap, Map, Names, number_of, Parts, parts_of, after, waits, Standing, standing_of, FitsAt}
+use Rattle.alloc_rules.proofs.Common.{IsLawful, FrontRules, Fits, fits_step, FitsShardStep, FitsHeapStep, FitsMapStep, FitsNamesStep, FitsFrontStep, IsValid}
 use Rattle.alloc_rules.specs.declared.part.Part.TheVariants.{Shard}
 use Rattle.class_shard.specs.Shard as shards
 use Rattle.call_steps.specs.declared.step.Step.TheVariants as does

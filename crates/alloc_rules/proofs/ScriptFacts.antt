@@ -1,6 +1,5 @@
 -- The first act of a call, over any front-end: it is of that call, and decides nothing before it is done.
-use Rattle.std.proofs.Common.{◌≡◌, ℕ, ◌+◌, true, List, drop, Option, Some, refl, arith, ◌<◌, is_some, option_map, slice_get}
-use Rattle.std.proofs.Common.{IfSome}
+use Rattle.std.proofs.Common.{◌≡◌, ℕ, ◌+◌, true, List, drop, Option, Some, refl, arith, ◌<◌, is_some, option_map, slice_get, IfSome}
 use Rattle.alloc_rules.proofs.Common.{eq-eqb, class_of, Class, Label, Call, Malloc, Free, Release, Drain, Resize, Planned, asking, publishing, got, gets}
 use Rattle.alloc_rules.proofs.Common.{Step, FrontCalls, AreEntries, IsEntry, step_or, first_of_malloc, first_of_call, first_act, About, undecided}
 use Rattle.alloc_rules.proofs.Common.{under, call_about, IsOf, doing_of, doing_about, IsOwn, is_under_way}

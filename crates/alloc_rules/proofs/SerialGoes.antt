@@ -1,11 +1,10 @@
 -- The thread of the earliest call that hasn't ended never waits.
 use Rattle.std.proofs.Common.{◌≡◌, ℕ, ◌+◌, ◌<◌, ◌≤◌, Bool, true, false, eqb, ltb, cond, List, [], ◌∷◌, ◌++◌, length, get_or, map, Option, Some}
 use Rattle.std.proofs.Common.{None, refl, sym, ap, ◌∙◌, subst, arith, inl, inr, option_map, slice_get}
-use Rattle.alloc_rules.proofs.Common.{cases_lt, cases_eq, eq-eqb, ltb-true, ltb-false, eqb-true, slice_get-get_or, append_snoc, Label, PartNo, Call}
-use Rattle.alloc_rules.proofs.Common.{Free, Planned, Asked, ThreadCall, script_of, Rules, World, world_of, FitsThere, IsReady}
-use Rattle.alloc_rules.proofs.Common.{stepped, done_by, done_in, picks_of, next_turn, picks-cons, picks-push_same}
-use Rattle.alloc_rules.proofs.Common.{picks-push_other, NameState, state_of, got, is_out, bit_is, undecided, About, call_at, target_at}
-use Rattle.alloc_rules.proofs.Common.{waits_for, Regs, Step, Local, Part, Names, number, number_of, Parts, parts_of, waits, first_of, rules}
+use Rattle.alloc_rules.proofs.Common.{cases_lt, cases_eq, eq-eqb, ltb-true, ltb-false, eqb-true, slice_get-get_or, append_snoc, Label, PartNo, Call, Free}
+use Rattle.alloc_rules.proofs.Common.{Planned, Asked, ThreadCall, script_of, Rules, World, world_of, FitsThere, IsReady, stepped, done_by, done_in, picks_of}
+use Rattle.alloc_rules.proofs.Common.{next_turn, picks-cons, picks-push_same, picks-push_other, NameState, state_of, got, is_out, bit_is, undecided, About}
+use Rattle.alloc_rules.proofs.Common.{call_at, target_at, waits_for, Regs, Step, Local, Part, Names, number, number_of, Parts, parts_of, waits, first_of, rules}
 use Rattle.alloc_rules.proofs.Common.{turns, got_in, IsInOrder, IsValid, Standing, FrontRules, Fits, IsIn, is_under_way}
 use Rattle.tc_model.specs.declared.steps.Stepped.TheVariants as step
 use Rattle.call_steps.specs.declared.step.Step.TheVariants as does
@@ -29,15 +28,7 @@ script_at (b ∷ bs) c after = search (arith, script_at bs c after, picks-cons, 
 
 pub script_length : (t : ℕ) (calls : List ThreadCall) → length (script_of t calls) ≡ picks_of t (turns_of calls)
 script_length t [] = refl
-script_length t (c ∷ cs) =
-    let h = script_length t cs in
-    let step : (b : Bool) → length (cond b (c.planned ∷ script_of t cs) (script_of t cs)) ≡ cond b 1 0 + picks_of t (turns_of cs) =
-    λ b. elim b as (λ k. length (cond k (c.planned ∷ script_of t cs) (script_of t cs)) ≡ cond k 1 0 + picks_of t (turns_of cs)) [
-      | true ↦ omega (arith, h)
-      | false ↦ omega (arith, h)
-    ]
-    in
-    ap length (script-cons t c cs) ∙ (step (eqb c.thread.0 t) ∙ sym (picks-cons t c.thread.0 (turns_of cs)))
+script_length t (c ∷ cs) = grind (arith, script_length t cs, script-cons t c cs, picks-cons t c.thread.0 (turns_of cs))
 
 turns-push : (before : List ThreadCall) (c : ThreadCall) → turns_of (before ++ c ∷ []) ≡ turns_of before ++ c.thread.0 ∷ []
 turns-push [] c = refl

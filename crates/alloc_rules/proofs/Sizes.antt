@@ -1,6 +1,5 @@
 -- How large the requests of a script are.
-use Rattle.std.proofs.Common.{◌≡◌, ℕ, ◌^◌, ◌≤◌, List, [], ◌∷◌, ◌++◌, All, Option, Some, None, refl, ◌∙◌, subst, arith}
-use Rattle.std.proofs.Common.{option_map, slice_get}
+use Rattle.std.proofs.Common.{◌≡◌, ℕ, ◌^◌, ◌≤◌, List, [], ◌∷◌, ◌++◌, All, Option, Some, None, refl, ◌∙◌, subst, arith, option_map, slice_get}
 use Rattle.alloc_rules.proofs.Common.{slice_get_within, get_or_from_slice_get, append_snoc, Label, Call, Malloc}
 use Rattle.alloc_rules.proofs.Common.{Planned, Asked, ThreadCall, script_of, call_at, ClassRow, IsValid}
 

@@ -1,12 +1,11 @@
 -- Each act of a thread, at the part that it wants, keeps what holds of a world.
-use Rattle.std.proofs.Common.{true, ◌≡◌, ℕ, zero, suc, ◌+◌, ◌≤◌, false, eqb, List, [], ◌∷◌, length, map, Some, refl, sym, ap, ◌∙◌, subst, arith, All}
+use Rattle.std.proofs.Common.{true, ◌≡◌, ℕ, ◌+◌, ◌≤◌, false, eqb, List, [], ◌∷◌, length, map, Some, refl, sym, ap, ◌∙◌, subst, arith, All}
 use Rattle.std.proofs.Common.{option_map, slice_get, slice_set}
-use Rattle.alloc_rules.proofs.Common.{length-set, count_by-le-length, All-set, All-head, slice_get-map, Malloc, Planned, MOST_PICKS, Asked, labels_of}
-use Rattle.alloc_rules.proofs.Common.{picks_of, Shard, SpanMap, IsWellFormed, NameState, HeapConfig, Regs, Books, of_all, Step, ShardStep, Does, setup_of}
-use Rattle.alloc_rules.proofs.Common.{HeapStep, MapStep, NamesStep, Local, About, undecided, shard_row, heap_row, map_row, names_row, waits_row}
-use Rattle.alloc_rules.proofs.Common.{front_row, FitsNames, FitsShard, FitsHeap, FitsMap, heap_config, Parts, HasRoom, IsShardOf, Here, Standing}
-use Rattle.alloc_rules.proofs.Common.{stand, at_step, standing_of, StepShape, IsLawful, FrontRules, IsBefore, IsKept, AddsSome}
-use Rattle.alloc_rules.proofs.Common.{Path, is_under_way, IsValid, calls}
+use Rattle.alloc_rules.proofs.Common.{length-set, count_by-le-length, All-set, All-head, slice_get-map, Malloc, Planned, MOST_PICKS, Asked, labels_of, picks_of}
+use Rattle.alloc_rules.proofs.Common.{Shard, SpanMap, IsWellFormed, NameState, HeapConfig, Regs, Books, of_all, Step, ShardStep, Does, setup_of, HeapStep}
+use Rattle.alloc_rules.proofs.Common.{MapStep, NamesStep, Local, About, undecided, shard_row, heap_row, map_row, names_row, waits_row, front_row, FitsNames}
+use Rattle.alloc_rules.proofs.Common.{FitsShard, FitsHeap, FitsMap, heap_config, Parts, HasRoom, IsShardOf, Here, Standing, stand, at_step, standing_of}
+use Rattle.alloc_rules.proofs.Common.{StepShape, IsLawful, FrontRules, IsBefore, IsKept, AddsSome, Path, is_under_way, IsValid, calls}
 use Rattle.alloc_rules.specs.FrontLaw.{IsReady}
 use Rattle.heap_rules.specs.Heap as heaps
 use Rattle.heap_rules.specs.Sound as heaps_sound
@@ -19,16 +18,11 @@ use Rattle.alloc_rules.proofs.HeapStays.{heap_stays, map_stays}
 use Rattle.alloc_rules.proofs.PartFits.{found_class, heap_fits, map_fits, names_fits}
 use Rattle.alloc_rules.proofs.Paths.{front_path, heap_path, map_path, names_path, shard_path}
 use Rattle.alloc_rules.proofs.Serving.{ArePlaced, IsActed, Moment}
+use Rattle.tc_model.proofs.Lists.{set_there}
 
 -- a fact of all of a list, where one element is replaced
 all_set : {X : Type 0} (P : X → Type 0) (xs : List X) (i : ℕ) (x : X) → All P xs → P x → All P (slice_set xs i x)
 all_set P xs i x all here = All-set P xs i x here all
-
--- an element that is set to what it was
-set_same : {X : Type 0} (xs : List X) (i : ℕ) (x : X) → slice_get xs i ≡ Some x → slice_set xs i x ≡ xs
-set_same [] i x is = refl
-set_same (y ∷ xs) zero x is = let e : y ≡ x = cc in ap (λ z. z ∷ xs) (sym e)
-set_same (y ∷ xs) (suc i) x is = ap (λ zs. y ∷ zs) (set_same xs i x is)
 
 -- a thread's picks are among all
 picks_few : (t : ℕ) (order : List ℕ) → picks_of t order ≤ length order
@@ -84,7 +78,7 @@ module _ {P V R : Type 0} {r : FrontRules P V R} {about : R → About} {planned 
   -- an act elsewhere keeps what holds of the front-end
   front_kept : (after : Local V R) → IsKept r about planned Holds t l after → Holds (length order + 1) p.fronts (map standing_of (slice_set locals t after))
   front_kept after kept =
-      let front = subst (Holds (length order) p.fronts) (sym (set_same (map standing_of locals) t (standing_of l) stands)) now.front in
+      let front = subst (Holds (length order) p.fronts) (sym (set_there (map standing_of locals) t (standing_of l) stands)) now.front in
       law.passes _ _ _ (subst (Holds (length order) p.fronts) (map_set standing_of locals t after) (kept.stands _ _ _ front))
 
   there_is : (after : Local V R) → HasRow r.calls after.seat (slice_get l.rest 0)

@@ -1,5 +1,5 @@
 -- The stock after a part of the front-end or a shard was replaced, and an act by the books of the parts.
-use Rattle.std.proofs.Common.{◌≡◌, ◌≢◌, ℕ, ◌+◌, List, [], ◌++◌, Some, sym, subst, arith, slice_get, slice_set}
+use Rattle.std.proofs.Common.{◌≡◌, ◌≢◌, ℕ, ◌+◌, List, [], ◌++◌, Some, arith, slice_get, slice_set}
 use Rattle.alloc_rules.proofs.Common.{Addr, Shard, objects_at, Account, Setup, Books, Said, Move, MoveObjects, shift, Local, About}
 use Rattle.alloc_rules.proofs.Common.{account_of, decided_at, stored_in, stock_of, AreBooksOf, Does, FrontRules, Parts}
 
@@ -19,18 +19,7 @@ module _ {P V R : Type 0} (r : FrontRules P V R) (about : R → About) where
   pub does_by : {m : Setup} {p : Parts P} {locals : List (Local V R)} {b : Books} → AreBooksOf r about p locals b → {fronts : List P} {shards : List Shard} {l after : Local V R}
       {a : Account} {said : List Said} → account_of about l ≡ a → Move m (settled b p) a (stock_of r about (with_stores p fronts shards)) b.heap b.spans p.names (account_of about after) said
       → after.acts ≡ l.acts + 1 → after.answers ≡ l.answers ++ decided_at l.acts said → Does r about m (with_stores p fronts shards) b l after
-  does_by {m} {p} {locals} {b} books {fronts} {shards} {l} {after} {a} {said} is move acts answers =
-      let Moved : Books → Account → Type 0 = λ y z. Move m y z (stock_of r about (with_stores p fronts shards)) b.heap b.spans p.names (account_of about after) said in
-      record {
-        heap = b.heap;
-        spans = b.spans;
-        said = said;
-        move = subst (Moved b) (sym is) (subst (λ (y : Books). Moved y a) (books_settled p locals b books) move);
-        like_heap = books.heap;
-        like_spans = books.spans;
-        acts = acts;
-        answers = answers;
-      }
+  does_by {m} {p} {locals} {b} books {fronts} {shards} {l} {after} {a} {said} is move acts answers = grind (arith, books_settled p locals b books)
 
   -- what is stored with other parts of the front-end
   abbrev stored_by : Parts P → List P → ℕ → ℕ → ℕ

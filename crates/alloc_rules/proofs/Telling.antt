@@ -1,5 +1,5 @@
 -- The calls that are told of a thread are the first ones of its script.
-use Rattle.std.proofs.Common.{◌≡◌, ℕ, zero, suc, ◌≤◌, List, [], ◌∷◌, length, map, take, Some, None, refl, ap, ◌∙◌, arith, slice_get}
+use Rattle.std.proofs.Common.{◌≡◌, ℕ, zero, suc, ◌≤◌, List, [], ◌∷◌, length, map, take, Some, None, refl, ap, arith, slice_get}
 use Rattle.alloc_rules.proofs.Common.{eq-eqb, ne_eqb, length-map, take_all, CallLine, Call, Planned, Said, lines, Decided, told, Local, call_at, lines_by}
 
 pub own_lines : (t : ℕ) (said : List Said) → lines_by t (lines t said) ≡ lines t said
@@ -32,10 +32,7 @@ AreOf script ds = (j : ℕ) (d : Decided) → slice_get ds j ≡ Some d → call
 first_calls : (script : List Planned) (ds : List Decided) → AreOf script ds → map (λ (d : Decided). d.call) ds ≡ take (length ds) (map (λ (p : Planned). p.call) script)
 first_calls script [] each = refl
 first_calls [] (d ∷ ds) each = let e = each 0 d refl in absurd (cc)
-first_calls (p ∷ ps) (d ∷ ds) each =
-    let e = each 0 d refl in
-    let same : d.call ≡ p.call = cc in
-    ap (λ (c : Call). c ∷ map (λ (x : Decided). x.call) ds) same ∙ ap (λ (cs : List Call). p.call ∷ cs) (first_calls ps ds (λ j x is. each (suc j) x is))
+first_calls (p ∷ ps) (d ∷ ds) each = grind (arith, first_calls ps ds (λ j x is. each (suc j) x is), each 0 d refl)
 
 pub tells_first : {V R : Type 0} (script : List Planned) (t : ℕ) (l : Local V R) (told_lines : List CallLine) (n : ℕ) → told_lines ≡ map (told t) l.answers
     → AreOf script l.answers → length l.answers ≡ n

@@ -1,7 +1,6 @@
 -- That an input is valid has one proof at most, so that a machine can keep it.
 use Rattle.std.proofs.Common.{List, Option, None, Some}
-use Rattle.alloc_rules.proofs.Common.{ClassRow, Call, Malloc, Free, Drain, Resize, Planned, Input, ThreadCall, IsClassRow, AreRows, IsInOrder}
-use Rattle.alloc_rules.proofs.Common.{IsCall}
+use Rattle.alloc_rules.proofs.Common.{ClassRow, Call, Malloc, Free, Drain, Resize, Planned, Input, ThreadCall, IsClassRow, AreRows, IsInOrder, IsCall}
 use Rattle.alloc_rules.specs.Inputs.{IsCallThere, IsMove, IsPlanned, IsValidInput, Limits, limits_of}
 use Rattle.std.specs.Coded.{le_prop}
 use Rattle.std.proofs.Math.Nat.{ℕ_set}

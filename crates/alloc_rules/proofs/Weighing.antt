@@ -1,9 +1,8 @@
 -- Accounts that weigh the same: one that nothing changes, and one that ends its call and begins the next.
 use Rattle.std.proofs.Common.{◌≡◌, ℕ, ◌+◌, Bool, cond, List, [], ◌∷◌, Option, Some, None, refl, ap, sym, subst, arith}
 use Rattle.alloc_rules.proofs.Common.{Addr, Class, Label, class_of, Call, Malloc, Free, Release, Drain, Resize, Planned, objects_at, Account, Doing, Takes}
-use Rattle.alloc_rules.proofs.Common.{Other, WeighSame, asking, publishing, taking, loose, got, put, first_of_malloc, first_of_call, regs_of_malloc}
-use Rattle.alloc_rules.proofs.Common.{fresh_regs, next_call, closes, ends, Local, step_or, Step, FrontCalls, AreEntries, IsEntry, About}
-use Rattle.alloc_rules.proofs.Common.{account_of, doing_about}
+use Rattle.alloc_rules.proofs.Common.{Other, WeighSame, asking, publishing, taking, loose, got, put, first_of_malloc, first_of_call, regs_of_malloc, fresh_regs}
+use Rattle.alloc_rules.proofs.Common.{next_call, closes, ends, Local, step_or, Step, FrontCalls, AreEntries, IsEntry, About, account_of, doing_about}
 use Rattle.holdings.specs.Accounts.{holds}
 use Rattle.call_steps.specs.declared.step.Step.TheVariants as step
 use Rattle.call_steps.specs.Calls as about
