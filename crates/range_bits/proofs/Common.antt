@@ -10,7 +10,7 @@ pub use Rattle.std.proofs.lemmas.Grind.{common_steps}
 pub use Rattle.std.proofs.lemmas.List.{append_assoc, drop-drop, drop_at, ext_get_or, get_or-append_right, get_or-drop, get_or-map, get_or-replicate}
 pub use Rattle.std.proofs.lemmas.List.{get_or-set_other, get_or-set_same, get_or-take, get_or_append_left, get_or_past, get_or_read, length-append, length-drop}
 pub use Rattle.std.proofs.lemmas.List.{length-map, length-replicate, length-take, length-take-le, nil_from_length, same_lists}
-pub use Rattle.std.proofs.lemmas.List.Elements.{All-cons, All-filter, All-from_get_or, All-head, All-nil, All-tail, filter_passes}
+pub use Rattle.std.proofs.lemmas.List.Elements.{All-filter, All-from_get_or, All-head, All-tail, filter_passes}
 pub use Rattle.std.proofs.lemmas.List.Sums.{count_by-le-length, get_or-le-sum_by, length-filter, prefix_len-drop_all, prefix_len-drop_no, prefix_len-drop_yes}
 pub use Rattle.std.proofs.lemmas.List.Sums.{prefix_len-le-length, prefix_len_passes, sum_by-append, sum_by-cons, sum_by-take-drop}
 pub use Rattle.std.proofs.lemmas.Nat.{and_le_l, and_le_r, pow_pos}

@@ -1,7 +1,6 @@
 -- The first of those than which none is less, where one is less than all others.
-use Rattle.std.proofs.Common.{◌≡◌, zero, suc, Bool, true, false, List, [], ◌∷◌, Option, Some, None, IfSome, All, Contains, refl, sym, ap, ◌∙◌, subst, inl, inr}
-use Rattle.std.proofs.Common.{◌⊎◌, arith}
-use Rattle.range_bits.proofs.Common.{nat_tests, cases_Bool, All-head, All-tail, All-cons, All-nil, first_of_two, first_least}
+use Rattle.std.proofs.Common.{◌≡◌, zero, suc, Bool, true, false, List, [], ◌∷◌, Option, Some, IfSome, All, Contains, ap, ◌∙◌, subst, ◌⊎◌, arith}
+use Rattle.range_bits.proofs.Common.{nat_tests, All-head, All-tail, first_of_two, first_least}
 use Rattle.range_bits.proofs.RangeLemmas.{first_least-all, first_least-none}
 
 -- an element is the least of a list where each element is it, or comes behind it
@@ -26,13 +25,4 @@ module _ {X : Type 0} (less : X → X → Bool) (x : X) where
 -- where the order goes one way and a place that it doesn't reach it doesn't reach by another one, none is less than the first
 pub none_less : {X : Type 0} (less : X → X → Bool) → ((x y : X) → less x y ≡ true → less y x ≡ false) → ((x y z : X) → less x y ≡ false → less y z ≡ false → less x z ≡ false) → (xs : List X) (first : X) → first_least less xs ≡ Some first → All (λ x. less x first ≡ false) xs
 none_less less one_way passes [] first e = absurd (cc)
-none_less {X} less one_way passes (x ∷ xs) first e =
-    let itself : (y : X) → less y y ≡ false = λ y. elim (cases_Bool (less y y)) [ inl t ↦ absurd (let c : true ≡ false = sym t ∙ one_way y y t in cc) | inr f ↦ f ] in
-    let Q : X → Type 0 = λ y. All (λ z. less z y ≡ false) (x ∷ xs) in
-    let alone : (o : Option X) → first_least less xs ≡ o → Q (first_of_two less x o) = λ o. elim o as (λ o. first_least less xs ≡ o → Q (first_of_two less x o)) [
-      | None ↦ λ none. All-cons (λ z. less z x ≡ false) x xs (itself x) (subst (λ (ys : List X). All (λ z. less z x ≡ false) ys) (sym (first_least-none less xs none)) (All-nil (λ z. less z x ≡ false)))
-      | Some y ↦ λ some.
-          let rest = none_less less one_way passes xs y some in
-          grind (arith, nat_tests, cases_Bool)
-    ] in
-    subst Q (let same : first_of_two less x (first_least less xs) ≡ first = cc in same) (alone (first_least less xs) refl)
+none_less {X} less one_way passes (x ∷ xs) first e = grind (arith, nat_tests, none_less less one_way passes xs, first_least-none)

@@ -2,7 +2,7 @@
 use Rattle.range_bits.proofs.Common.{common_steps, cases_lt, nat_tests, same_lists, ext_get_or, get_or-set_same, get_or-set_other, get_or_append_left}
 use Rattle.range_bits.proofs.Common.{get_or-append_right, length-take-le, length-replicate, length-drop, length-append, get_or-take, get_or-drop}
 use Rattle.range_bits.proofs.Common.{get_or-replicate, with_places, is_one, is_marked, row_of}
-use Rattle.std.proofs.Common.{◌≡◌, ◌≢◌, ℕ, ◌+◌, ◌-◌, ◌*◌, ◌/◌, ◌%◌, ◌<◌, ◌≤◌, Bool, true, false, cond, List, ◌++◌, length, get_or, set, take, drop, replicate, min, sym, ap, ◌∙◌, inl, inr, arith}
+use Rattle.std.proofs.Common.{◌≡◌, ◌≢◌, ℕ, ◌+◌, ◌-◌, ◌*◌, ◌/◌, ◌%◌, ◌<◌, ◌≤◌, Bool, true, false, cond, List, ◌++◌, length, get_or, set, take, drop, replicate, min, sym, ap, inl, inr, arith}
 use Rattle.range_bits.proofs.BitFacts.{is_between}
 use Rattle.range_bits.proofs.RowFacts.{length-row_of, get_or-row_of, marked_in_word}
 
@@ -36,10 +36,7 @@ placed_word old words start to index low high word used row some l h made so_far
     record {
       each = λ p.
           elim (cases_lt p base) [
-            | inl below ↦
-                other_word words index word p (λ e. omega arith)
-                ∙ so_far.each p
-                ∙ ap (λ (b : Bool). cond b used (is_marked old p)) (test_below base start to p below)
+            | inl below ↦ grind (arith, other_word words index word p, so_far.each p, test_below base start to p below)
             | inr from ↦ elim (cases_lt p (base + 64)) [
               | inl inside ↦ grind (arith, nat_tests, common_steps, marked_in_word, outside_above, get_or-set_same, is_between, same_test)
               | inr past ↦

@@ -1,6 +1,7 @@
 -- When a best range of a row is there, and where it lies.
 use Rattle.std.proofs.Common.{◌≡◌, ℕ, ◌+◌, ◌<◌, ◌≤◌, Bool, List, [], ◌∷◌, length, drop, fold, max, Option, Some, None, refl, inl, inr, arith, ◌⊎◌, not}
-use Rattle.range_bits.proofs.Common.{cases_lt, length-drop, prefix_len-le-length, free_from, longest, best}
+use Rattle.std.proofs.lemmas.Bool.Decides.{nat_tests}
+use Rattle.range_bits.proofs.Common.{length-drop, prefix_len-le-length, free_from, longest, best}
 use Rattle.range_bits.proofs.RangeLemmas.{longest-at, best-at, best-some}
 
 pub fold_max : (a : ℕ) (xs : List ℕ) → fold max a xs ≡ max a (fold max 0 xs)
@@ -20,11 +21,7 @@ best_is_fit row n s e = best-at row n s e
 
 -- where there is no best range, the longest is too short
 pub longest_is_short : (row : List Bool) (n : ℕ) → 0 < n → best row n ≡ None → longest row < n
-longest_is_short row n pos none =
-    elim (cases_lt (longest row) n) [
-      | inl short ↦ short
-      | inr long ↦ (let far = longest-at row n pos long in absurd (best-some row n far.0 far.1 pos far.2 none))
-    ]
+longest_is_short row n pos none = grind (arith, nat_tests, longest-at row n pos, best-some row n)
 
 pub some_or_none : (o : Option ℕ) → (o ≡ None) ⊎ ((s : ℕ) × (o ≡ Some s))
 some_or_none None = inl refl

@@ -1,5 +1,5 @@
 -- Free ranges of a row: bounds on the longest, and where the best one begins.
-use Rattle.range_bits.proofs.Common.{common_steps, nat_tests, range_with_len, cases_Bool, and_from, and_parts, not-true, not_from_false, le-leb, leb-true}
+use Rattle.range_bits.proofs.Common.{common_steps, nat_tests, range_with_len, cases_Bool, and_parts, not-true, not_from_false, leb-true}
 use Rattle.range_bits.proofs.Common.{or_right, cases_lt, length-drop, get_or-drop, get_or-map, nil_from_length, length-map, prefix_len_passes}
 use Rattle.range_bits.proofs.Common.{prefix_len-le-length, prefix_len-drop_yes, length-filter, get_or-le-sum_by, All-head, All-tail, All-from_get_or}
 use Rattle.range_bits.proofs.Common.{filter_passes, free_from, places, longest, begins_range, first_of_two, first_least, best, count_none}
@@ -116,7 +116,11 @@ best-at row n s h =
 pub best-some : (row : List Bool) (n place : ℕ) → place < length row → 0 < n → n ≤ free_from row place → best row n ≡ None → ⊥
 best-some row n place h some far none =
     let s = start_of row n place h some far in
-    let empty = first_least-none (λ a b. nat_lt (free_from row a) (free_from row b)) (filter (fits_at row n) (places row)) none in
-    let len = length-range_with_len 0 (length row) in
-    let here : get_or (places row) s.0 0 ≡ s.0 = get_or-range_with_len 0 (length row) s.0 0 s.1 ∙ omega arith in
-    filter-some (fits_at row n) (places row) s.0 0 (omega (arith, s.1)) (rw here (and_from _ _ s.3 (le-leb n _ s.2))) empty
+    grind (
+      arith,
+      nat_tests,
+      first_least-none (λ a b. nat_lt (free_from row a) (free_from row b)) (filter (fits_at row n) (places row)) none,
+      length-range_with_len 0 (length row),
+      get_or-range_with_len 0 (length row) s.0 0 s.1,
+      filter-some (fits_at row n) (places row) s.0 0,
+    )

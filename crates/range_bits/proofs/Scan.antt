@@ -1,8 +1,8 @@
 -- One free range more of a row: the longest and the best so far, and what the next range makes of them.
-use Rattle.range_bits.proofs.Common.{common_steps, range_with_len, All-filter, filter_passes, get_or-le-sum_by, prefix_len-drop_yes, prefix_len-drop_no}
+use Rattle.range_bits.proofs.Common.{lt-ltb, common_steps, range_with_len, All-filter, filter_passes, get_or-le-sum_by, prefix_len-drop_yes, prefix_len-drop_no}
 use Rattle.range_bits.proofs.Common.{prefix_len-drop_all, cases_Bool, cases_lt, cond_both, and_from, and_parts, and_left, and_right, or_left, or_right, le-leb}
-use Rattle.range_bits.proofs.Common.{leb-true, leb-false, le-ltb, lt-ltb, ne_eqb, nat_tests, count_none, free_from, begins_range, first_of_two, first_least}
-use Rattle.range_bits.proofs.Common.{longest, best, used_count, IsNextRange}
+use Rattle.range_bits.proofs.Common.{leb-true, leb-false, le-ltb, ne_eqb, nat_tests, count_none, free_from, begins_range, first_of_two, first_least, longest}
+use Rattle.range_bits.proofs.Common.{best, used_count, IsNextRange}
 use Rattle.std.proofs.Common.{◌≡◌, ℕ, zero, suc, ◌+◌, ◌-◌, ◌<◌, ◌≤◌, ◌==◌, ◌⊎◌, Bool, true, false, not, nat_lt, nat_le, List, ◌∷◌, ◌++◌, length, get_or, map, filter, fold, max, Option, Some, None, IfSome, cond, refl, sym, ap, ◌∙◌, inl, inr, arith, option_map, eq-eqb, ◌↔◌}
 use Rattle.range_bits.proofs.RangeFacts.{fold_max, best_is_fit, longest_is_short, some_or_none}
 use Rattle.range_bits.proofs.RangeLemmas.{fits_at, longest-at, longest-le-length, free_fits, free_at, start_of, range-within, first_least-all}
@@ -54,16 +54,7 @@ starts row from start len range edge some = grind (arith, nat_tests, begins)
 -- up to its end nothing but its start begins a range, and there the range is as long
 reach : (row : List Bool) (from start len y : ℕ) → IsNextRange row from start len → y < start + len → begins_range row y ≡ true → (y < from) ⊎ ((y ≡ start) × (free_from row y ≡ len))
 reach row from start len y range to here =
-    elim (cases_lt y from) [
-      | inl early ↦ inl early
-      | inr low ↦ inr (elim (cases_lt y start) [
-        | inl before ↦ absurd (let c : true ≡ false = sym here ∙ used_begins row y (range.used y low before) in cc)
-        | inr late ↦ elim (cases_lt start y) [
-          | inl inside ↦ absurd (let c : true ≡ false = sym here ∙ behind_free row y (omega arith) (range.free (y - 1) (omega arith) (omega arith)) in cc)
-          | inr same ↦ (omega arith, ap (free_from row) (omega arith) ∙ free_run row len start range.within range.free range.end)
-        ]
-      ])
-    ]
+    grind (arith, nat_tests, used_begins row y, range.used y, behind_free row y, range.free (y - 1), free_run row len start range.within range.free range.end)
 
 -- a length that no range exceeds which begins before a place, and that one has
 pub record IsLongest (row : List Bool) (to most : ℕ) : Type 0 where
@@ -71,18 +62,7 @@ pub record IsLongest (row : List Bool) (to most : ℕ) : Type 0 where
   pub there : 0 < most → (y : ℕ) × (y < length row) × (most ≤ free_from row y)
 
 pub longest_is : (row : List Bool) (to most : ℕ) → length row ≤ to → IsLongest row to most → longest row ≡ most
-longest_is row to most all is =
-    let above : longest row ≤ most =
-    elim (cases_lt 0 (longest row)) [
-      | inr none ↦ omega arith
-      | inl some ↦
-          (let far = longest-at row (longest row) some (omega arith) in
-          grind (arith, nat_tests, start_of))
-    ] in
-    elim (cases_lt 0 most) [
-      | inl some ↦ (let at = is.there some in omega (arith, at.2, greatest-ge (free_from row) 0 (length row) at.0 (omega arith) (omega (arith, at.1))))
-      | inr none ↦ omega arith
-    ]
+longest_is row to most all is = grind (arith, nat_tests, longest-at row (longest row), start_of, is.there, greatest-ge (free_from row) 0 (length row))
 
 pub longest_more : (row : List Bool) (from start len most : ℕ) → IsNextRange row from start len → IsLongest row from most → IsLongest row (start + len) (max len most)
 longest_more row from start len most range is =
@@ -137,9 +117,7 @@ pub best_none : (row : List Bool) (n : ℕ) → 0 < n → ((y : ℕ) → y < len
 best_none row n some short =
     elim (some_or_none (best row n)) [
       | inl none ↦ none
-      | inr found ↦
-          (let fit = best_is_fit row n found.0 found.1 in
-          grind (arith, nat_tests, start_of))
+      | inr found ↦ grind (arith, best_is_fit row n found.0 found.1, start_of)
     ]
 
 -- the best so far as a range
@@ -158,28 +136,17 @@ best_stays row n from start len s range most is =
       inside = is.inside;
       starts = is.starts;
       long = is.long;
-      least = λ y to here long.
-          elim (reach row from start len y range to here) [
-            | inl early ↦ is.least y early here long
-            | inr at ↦ (omega (arith, at.1, most (omega (arith, at.1))), λ less. absurd (omega (arith, at.0, range.behind, is.before)))
-          ];
+      least = grind (arith, reach row from start len, is.least, most);
     }
 
 best_new : (row : List Bool) (n from : ℕ) (range : FreeRange) → IsNextRange row from range.start range.len → (0 < from → from < length row → get_or row from true ≡ true) → 0 < n → n ≤ range.len → ((y : ℕ) → y < from → begins_range row y ≡ true → n ≤ free_from row y → range.len < free_from row y) → IsBest row n (range.start + range.len) (Some range)
 best_new row n from range next edge some long others =
-    let len : free_from row range.start ≡ range.len = free_run row range.len range.start next.within next.free next.end in (
-      record {
-        before = omega arith;
-        inside = omega (arith, next.within);
-        starts = starts row from range.start range.len next edge (omega arith);
-        long = omega arith;
-        least = λ y to here long.
-            elim (reach row from range.start range.len y next to here) [
-              | inl early ↦ (omega (arith, others y early here long), λ less. omega (arith, others y early here long))
-              | inr at ↦ (omega (arith, at.1), λ less. absurd (omega (arith, at.0)))
-            ];
-      },
-      len,
+    grind (
+      arith,
+      free_run row range.len range.start next.within next.free next.end,
+      starts row from range.start range.len next edge,
+      reach row from range.start range.len,
+      others,
     )
 
 pub best_passed : (row : List Bool) (n from start len : ℕ) (found : Option FreeRange) → IsNextRange row from start len → len < n → IsBest row n from found → IsBest row n (start + len) found
@@ -196,10 +163,7 @@ best_taken row n from (Some old) range next edge some long is =
 -- there is no best range exactly where the longest is too short
 pub none_exactly : (row : List Bool) (n : ℕ) (r : Option ℕ) → 0 < n → r ≡ best row n → (r ≡ None) ↔ (longest row < n)
 none_exactly row n None pos e = ((λ none. longest_is_short row n pos (sym e)), (λ short. refl))
-none_exactly row n (Some s) pos e =
-    let fit = best_is_fit row n s (sym e) in
-    let most = greatest-ge (free_from row) 0 (length row) s (omega arith) (omega (arith, fit.0)) in
-    ((λ none. absurd (cc)), (λ short. absurd (omega (arith, fit.1))))
+none_exactly row n (Some s) pos e = grind (arith, best_is_fit row n s (sym e), greatest-ge (free_from row) 0 (length row) s)
 
 -- the longest free range is the whole row exactly where no place is used
 none_used : (row : List Bool) → longest row ≡ length row → used_count row ≡ 0

@@ -1,4 +1,4 @@
-use Rattle.std.proofs.Common.{◌≡◌, ℕ, ◌+◌, ◌*◌, set, min, subst, arith}
+use Rattle.std.proofs.Common.{arith}
 use Rattle.range_bits.proofs.Common.{nat_tests}
 use Rattle.range_bits.proofs.Placing.{Placed, placed_none, placed_word, placed_all}
 use Rattle.range_bits.proofs.words.set_places.Goals as goal
@@ -12,9 +12,7 @@ loop-index-preserved c =
     let words = c.loop-index.words in
     let index = c.loop-index.index in
     let word = c.with_bits.result in
-    let next : 64 * index + 64 ≡ 64 * (index + 1) = omega arith in
-    let P : ℕ → Type 0 = λ t. Placed old (set words index word) c.args.start (min c.args.end t) c.args.used in
-    subst P next (placed_word old words c.args.start c.args.end index c.saturating_sub-low.result c.min-high.result word c.args.used (omega (arith, c.loop-index.auto.words)) (omega arith) (omega arith) (omega arith) c.with_bits.ensures c.loop-index.invariant)
+    grind (arith, placed_word old words c.args.start c.args.end index c.saturating_sub-low.result c.min-high.result word c.args.used)
 
 pub returns-clause-places : goal.returns-clause-places
 returns-clause-places c = grind (arith, nat_tests, placed_all, Placed)
