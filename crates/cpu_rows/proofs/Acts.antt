@@ -1,6 +1,5 @@
 -- What comes behind an act at a CPU, and what the act leaves.
-use Rattle.std.proofs.Common.{◌≡◌, ◌≢◌, ℕ, ◌+◌, ◌<◌, ◌≤◌, false, List, [], length, Option, Some, None, refl, sym, ap, subst, arith, inl, ◌⊎◌}
-use Rattle.std.proofs.Common.{eqb}
+use Rattle.std.proofs.Common.{◌≡◌, ◌≢◌, ℕ, ◌+◌, ◌<◌, ◌≤◌, false, List, [], length, Option, Some, None, refl, ap, subst, arith, inl, ◌⊎◌, eqb}
 use Rattle.cpu_rows.proofs.Common.{cond_both, ThreadNo, ClassRow, MoveTo, Config, MOST_PICKS, CpuSlab, row_at, held, CpuPart, Regs, is_pop}
 use Rattle.cpu_rows.proofs.Common.{IsCurrent, left, dropped, CpuOk, SeatOk, SeatKeeps, IsHome, AreOfSame, objects_at, CpuSeat, CpuRow, CpuStep, Next}
 use Rattle.cpu_rows.proofs.Common.{HasNoLabel, About, Asks, about_giving, cpu_acts, leaving, moves_to, leaves, looks_on, gives}
@@ -170,8 +169,11 @@ module _ (turn : Turn) where
       let u : ThreadNo = g.thread in
       let left_seat : seats.Seat = record (seat row) { regs = dropped g; cpu = move.cpu.0 } in
       let keeps = lawful.leaves (length rows) (at_cpu v.cpu row).0 move.cpu.0 (thread_no t) p (seat row) (home_of row there here) in
-      let low : IsMove (limits_of rows c) (Some move) = subst (IsMove (limits_of rows c)) is there.sits.move in
-      let m = moves_none (left p u) (left_part u).1 (slab_same (left p u) (left_part u).0) in
-      builds row (left p u) (moves_to v move) (dropped g) (dropped g) n (seat row).standing o there (record { home = low; domains = there.sits.domains; move = tt })
-      (record { same = record { thread = refl; class = refl; seq = refl; hand_room = refl; loaded_room = omega arith }; ran = m.ran; epoch = m.epoch; others = m.others; moves = m.moves })
-      (as_left row (moves_to v move) (dropped g) o n b) stands (subst (λ (x : ThreadNo). Keeps row (left p x) left_seat) (sym there.sits.thread) keeps)
+      grind (
+        arith,
+        moves_none (left p u) (left_part u).1 (slab_same (left p u) (left_part u).0),
+        left_part u,
+        slab_same (left p u) (left_part u).0,
+        builds row (left p u) (moves_to v move) (dropped g) (dropped g) n (seat row).standing o there,
+        as_left row (moves_to v move) (dropped g) o n b,
+      )

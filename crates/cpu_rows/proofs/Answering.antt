@@ -1,6 +1,5 @@
 -- A drain or a resize is answered busy, and a capacity, exactly as the CPU stands.
-use Rattle.std.proofs.Common.{◌≡◌, ℕ, ◌<◌, ◌≤◌, ◌↔◌, Bool, true, false, ltb, cond, List, [], ◌∷◌, ◌++◌, Option, Some, None, refl, sym, ap, ◌∙◌, subst, arith}
-use Rattle.std.proofs.Common.{◌≢◌}
+use Rattle.std.proofs.Common.{◌≡◌, ℕ, ◌<◌, ◌≤◌, ◌↔◌, Bool, true, false, ltb, cond, List, [], ◌∷◌, ◌++◌, Option, Some, None, refl, sym, ap, subst, arith, ◌≢◌}
 use Rattle.cpu_rows.proofs.Common.{ltb-true, ltb-false, Class, ThreadNo, ClassRow, Call, Resize, Answer, Busy, CapSet, OverLimit, OverStatic, CpuSlab}
 use Rattle.cpu_rows.proofs.Common.{cap_fault, CpuPart, Local, Step, Stopping, Resizing, ends, decided, cap_answer, stops, follows, cpu_calls, call_of, Input}
 use Rattle.cpu_rows.proofs.Common.{about_row, Decides, front_after, CpuFrontPart, front_of}
@@ -25,9 +24,7 @@ abbrev after_step : Input → CpuPart → Local → Step → CpuFrontPart × Loc
 after_step input p l s = front_after (front_of input) about_row (caches.Cpu p) l s
 
 pub answers_busy : (input : Input) (p : CpuPart) (l : Local) → ((s : Stopping) → l.step ≡ does.Front (front.Cpu (cpu.Stop s)) → p.stopper ≢ Some l.regs.thread) → AnswersBusy input p l
-answers_busy input p l other s owner step =
-    let law = subst (λ (x : Step). Decides l (after_step input p l x).1 (Busy owner) ↔ (p.stopper ≡ Some owner)) (sym step) (busy_of input.rows p l s owner p.stopper) in
-    (λ d. (law.0 d, λ same. other s step (law.0 d ∙ ap (λ (u : ThreadNo). Some u) same)), λ is. law.1 is.0)
+answers_busy input p l other s owner step = grind (arith, busy_of input.rows p l s owner p.stopper, other s step)
 
 -- a capacity, by the two comparisons
 module _ (l next : Local) (slab : CpuSlab) (k : Class) (n : ℕ) (call : Call) where
@@ -37,26 +34,12 @@ module _ (l next : Local) (slab : CpuSlab) (k : Class) (n : ℕ) (call : Call) w
   cap_by true b over more is =
       let high : slab.most < n = ltb-true slab.most n over in
       let law : (y : Answer) → Decides l next y ↔ (OverStatic slab.most ≡ y) = λ y. decides_by l next call (OverStatic slab.most) y is in
-      record {
-        over_static = λ most. (
-          λ d. let e : OverStatic slab.most ≡ OverStatic most = (law (OverStatic most)).0 d in (cc, high),
-          λ of. (law (OverStatic most)).1 (ap (λ m. OverStatic m) (sym of.0)),
-        );
-        over_limit = λ sum. (λ d. let e : OverStatic slab.most ≡ OverLimit sum = (law (OverLimit sum)).0 d in absurd (cc), λ of. absurd (omega (arith, high, of.0)));
-        set = (λ d. let e : OverStatic slab.most ≡ CapSet = (law CapSet).0 d in absurd (cc), λ of. absurd (omega (arith, high, of.0)));
-      }
+      grind (arith, law CapSet)
   cap_by false true over more is =
       let low : n ≤ slab.most = omega (arith, ltb-false slab.most n over) in
       let high : slab.limit < bytes_with slab k n = ltb-true slab.limit (bytes_with slab k n) more in
       let law : (y : Answer) → Decides l next y ↔ (OverLimit (bytes_with slab k n) ≡ y) = λ y. decides_by l next call (OverLimit (bytes_with slab k n)) y is in
-      record {
-        over_static = λ most. (λ d. let e : OverLimit (bytes_with slab k n) ≡ OverStatic most = (law (OverStatic most)).0 d in absurd (cc), λ of. absurd (omega (arith, low, of.1)));
-        over_limit = λ sum. (
-          λ d. let e : OverLimit (bytes_with slab k n) ≡ OverLimit sum = (law (OverLimit sum)).0 d in let same : sum ≡ bytes_with slab k n = cc in (low, same, omega (arith, same, high)),
-          λ of. (law (OverLimit sum)).1 (ap (λ m. OverLimit m) (sym of.1)),
-        );
-        set = (λ d. let e : OverLimit (bytes_with slab k n) ≡ CapSet = (law CapSet).0 d in absurd (cc), λ of. absurd (omega (arith, high, of.1)));
-      }
+      grind (arith, law CapSet)
   cap_by false false over more is =
       let low : n ≤ slab.most = omega (arith, ltb-false slab.most n over) in
       let few : bytes_with slab k n ≤ slab.limit = omega (arith, ltb-false slab.limit (bytes_with slab k n) more) in

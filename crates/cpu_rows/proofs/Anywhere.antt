@@ -1,12 +1,9 @@
 -- What each act keeps, wherever it finds its part: a slab is as the table and the heads say, and a row refuses a call as it may.
-use Rattle.std.proofs.Common.{◌≡◌, ℕ, zero, suc, Bool, eqb, List, [], ◌∷◌, map, Option, refl, ap, ◌∙◌}
-use Rattle.std.proofs.Common.{slice_set, slice_index_or, arith}
-use Rattle.cpu_rows.proofs.Common.{cond_both, ClassRow, ThreadNo, MoveTo, Config, CapFault, SlabRow, CpuSlab, no_row, row_at, with_row, set_unless}
-use Rattle.cpu_rows.proofs.Common.{CpuPart, Regs, CpuSeat, CpuStep}
-use Rattle.cpu_rows.proofs.Common.{Stopping, due, sequence_by, stops, left_for, cpu_acts, looks_on, gives, after_pop, after_stock, after_push, replied}
-use Rattle.cpu_rows.proofs.Common.{started}
-use Rattle.cpu_rows.proofs.Common.{slab_class, IsSlabOf, Addr, Reply, Asking, Giving, CpuRow}
-use Rattle.cpu_rows.proofs.Common.{Next, cpu_refuses, as_row, RefusesAs, CpuFrontPart, front_acts}
+use Rattle.std.proofs.Common.{◌≡◌, ℕ, zero, suc, Bool, eqb, List, [], ◌∷◌, map, Option, refl, ap, ◌∙◌, slice_set, slice_index_or, arith}
+use Rattle.cpu_rows.proofs.Common.{cond_both, ClassRow, ThreadNo, MoveTo, Config, CapFault, SlabRow, CpuSlab, no_row, row_at, with_row, set_unless, CpuPart}
+use Rattle.cpu_rows.proofs.Common.{Regs, CpuSeat, CpuStep, Stopping, due, sequence_by, stops, left_for, cpu_acts, looks_on, gives, after_pop, after_stock}
+use Rattle.cpu_rows.proofs.Common.{after_push, replied, started, slab_class, IsSlabOf, Addr, Reply, Asking, Giving, CpuRow, Next, cpu_refuses, as_row}
+use Rattle.cpu_rows.proofs.Common.{RefusesAs, CpuFrontPart, front_acts}
 use Rattle.cpu_slab.specs.Growth.{grown, growth, narrower, rise, roomy, taken_from, unused, used, victim, widened, wider}
 use Rattle.std.{specs.Int.div_ceil}
 use Rattle.rseq_core.specs.Acts as rseq

@@ -1,15 +1,13 @@
 -- The names of other crates and of the definitions that most proofs here cite, passed on from one place. Declares nothing.
 pub use Rattle.alloc_rules.specs.FrontLaw.{IsReady, with_hand}
 pub use Rattle.alloc_rules.proofs.Common.{About, Addr, All-head, All-map, All-nil, All-tail, Answer, AreEntries, AreRows, Asking, At, Away, BeginsWith, Call}
-pub use Rattle.alloc_rules.proofs.Common.{Class, ClassRow, Contents, Counts, Decides, Drain, Free, Freeing, Giving, HAND_ROOM, HandAbout, HasNoLabel, HasRoom}
-pub use Rattle.alloc_rules.proofs.Common.{Here, Input, IsAct, IsAsked, IsEntry, IsLawful, IsNext, IsOrder, IsOwn, LOADED_ROOM, Later, MOST_PICKS, Malloc}
-pub use Rattle.alloc_rules.proofs.Common.{PartNo, Planned, RefusesAs, Regs, Release, Resize, Rules, Serving, Standing, ThreadNo, Transfer, World}
-pub use Rattle.alloc_rules.proofs.Common.{about_giving, appended, at_next, at_row, at_step, bit, call_about, cases_eq, class_row, cond_both, counts_append}
-pub use Rattle.alloc_rules.proofs.Common.{decided, emptied, ends, eq-eqb, eqb-true, false_from_ne_true, false≢true, follows, front_after}
-pub use Rattle.alloc_rules.proofs.Common.{get_or-range_with_len, goes, idle, last_first, le-ltb, leb-true, length-append, length-drop, length-map}
-pub use Rattle.alloc_rules.proofs.Common.{length-range_with_len, length-set, length-take, lt-ltb, ltb-false, ltb-true, most_slots, ne_eqb, no_class, number}
-pub use Rattle.alloc_rules.proofs.Common.{objects_at, of_all, range_with_len, regs_next, reverse-append, room, slice_get-get_or, slice_get-map}
-pub use Rattle.alloc_rules.proofs.Common.{slice_get_within, stand, standing_of, start, sum_by-cons, take-append-drop, thread_no, with_pair, with_regs}
+pub use Rattle.alloc_rules.proofs.Common.{Class, ClassRow, Contents, Decides, Drain, Freeing, Giving, HAND_ROOM, HandAbout, HasNoLabel, HasRoom, Here, Input}
+pub use Rattle.alloc_rules.proofs.Common.{IsAct, IsAsked, IsEntry, IsLawful, IsNext, IsOrder, IsOwn, LOADED_ROOM, Later, MOST_PICKS, PartNo, Planned, RefusesAs}
+pub use Rattle.alloc_rules.proofs.Common.{Regs, Resize, Rules, Serving, Standing, ThreadNo, Transfer, World, about_giving, at_next, at_row, at_step, cases_eq}
+pub use Rattle.alloc_rules.proofs.Common.{class_row, cond_both, decided, emptied, ends, eq-eqb, eqb-true, false_from_ne_true, false≢true, follows, front_after}
+pub use Rattle.alloc_rules.proofs.Common.{goes, idle, last_first, le-ltb, leb-true, length-append, length-drop, length-map, length-range_with_len, length-set}
+pub use Rattle.alloc_rules.proofs.Common.{length-take, lt-ltb, ltb-false, ltb-true, most_slots, ne_eqb, no_class, number, objects_at, of_all, range_with_len}
+pub use Rattle.alloc_rules.proofs.Common.{regs_next, room, slice_get-map, slice_get_within, stand, standing_of, start, sum_by-cons, thread_no, with_pair}
 pub use Rattle.alloc_rules.proofs.Common.{without_last}
 pub use Rattle.alloc_rules.proofs.Counting.{objects_append, objects_cut, objects_last, objects_reverse}
 pub use Rattle.alloc_rules.specs.Inputs.{IsCallThere, IsMove, IsValidInput, Limits, limits_of}
@@ -17,14 +15,14 @@ pub use Rattle.call_steps.{specs.Acts.front_yields, specs.Fronts.leaving, specs.
 pub use Rattle.call_steps.specs.Calls.{Asks, Frees, Other, Publishes}
 pub use Rattle.call_steps.specs.Follows.{ComesWith, HasObject, MayFollow}
 pub use Rattle.cpu_drain.proofs.Does.{grow_does, instruct_does, take_does}
-pub use Rattle.cpu_drain.specs.Laws.{AnswerMoves, AreOfSame, Grows, Instructs, IsHome, MovesUp, ReplyMoves, Takes}
-pub use Rattle.cpu_drain.specs.Seats.{AreSet, CpuOk, IsHeld, IsStopping, SeatKeeps, SeatOk}
+pub use Rattle.cpu_drain.specs.Laws.{AnswerMoves, AreOfSame, Grows, Instructs, IsHome, ReplyMoves, Takes}
+pub use Rattle.cpu_drain.specs.Seats.{CpuOk, IsHeld, IsStopping, SeatKeeps, SeatOk}
 pub use Rattle.cpu_rows.{specs.Laws.AreCpuLimits, specs.Laws.CpuIsLawful, specs.declared.row.CpuRow.CpuRow, specs.declared.row.CpuStep.CpuStep}
 pub use Rattle.cpu_rows.{specs.declared.row.DomainStep.DomainStep, specs.declared.row.Draining.Draining, specs.declared.row.Resizing.Resizing}
 pub use Rattle.cpu_rows.{specs.declared.row.Stopping.Stopping, specs.declared.seat.CpuSeat.CpuSeat}
 pub use Rattle.cpu_rows.specs.CpuActs.{Left, after_pop, after_push, after_stock, at_cpu_next, cap_answer, cpu_acts, domain_acts, drained, drains_on, due}
-pub use Rattle.cpu_rows.specs.CpuActs.{gives, gives_taken, grew_to, grows, instructed_to, instructs, is_due, leaves, left_for, looks_on}
-pub use Rattle.cpu_rows.specs.CpuActs.{moves_to, put_in, puts, replied, runs_open, sequence, sequence_by, started, stops, takes, took, yields_to_enter}
+pub use Rattle.cpu_rows.specs.CpuActs.{gives, gives_taken, grew_to, grows, instructed_to, instructs, is_due, leaves, left_for, looks_on, moves_to, put_in}
+pub use Rattle.cpu_rows.specs.CpuActs.{puts, replied, runs_open, sequence, sequence_by, started, stops, takes, took, yields_to_enter, leaving}
 pub use Rattle.cpu_rows.specs.CpuCalls.{cpu_calls, cpu_row, leave_row, move_of, stop_row, to_sequence, to_stop, with_move, with_next, yields_for}
 pub use Rattle.cpu_rows.specs.CpuRows.{cpu_refuses}
 pub use Rattle.cpu_rows.specs.CpuFits.{FitsCpu, FitsDomain, FitsSequence, taken_by}
@@ -34,14 +32,14 @@ pub use Rattle.cpu_rows.specs.CpuHolds.{ArePlaced, CpuHolds, IsSeated, RegsAt, c
 pub use Rattle.cpu_rows.specs.CpuRows.{about_cpu, about_row, as_row, at_cpu, call_of, cpu_of, domain_of}
 pub use Rattle.cpu_rows.specs.Machine.{Part, after, front_of, rules}
 pub use Rattle.cpu_rows.specs.PerCpu.{CpuLocal as Local, Next, Step}
-pub use Rattle.cpu_rows.specs.Shapes.{CpuShape, DomainShape, HasHand, HasNone, IsAtBegin, IsAtFirst, IsGiving, IsStop, IsToCome}
+pub use Rattle.cpu_rows.specs.Shapes.{CpuShape, DomainShape, HasNone, IsAtBegin, IsAtFirst, IsGiving, IsStop, IsToCome}
 pub use Rattle.cpu_rows.specs.CpuRows.{alone, below, cpu_standing}
 pub use Rattle.cpu_rows.specs.Shapes.{giving_standing}
-pub use Rattle.cpu_rows.specs.CpuRows.{empty_to_start, empty_to_take, never}
+pub use Rattle.cpu_rows.specs.CpuRows.{empty_to_start, empty_to_take, never, no_class_empty}
 pub use Rattle.cpu_rows.specs.Slabs.{IsSlabOf, slab_class, table_class}
-pub use Rattle.cpu_rows.specs.Switches.{Kind, SwitchesAreFew, act_kind, closes, closing, count_at, enters, entry, growth_kind, instructed_kind, kind_at}
+pub use Rattle.cpu_rows.specs.Switches.{Kind, SwitchesAreFew, act_kind, closes, closing, count_at, enters, entry, instructed_kind, kind_at}
 pub use Rattle.cpu_rows.specs.Switches.{kind_of, neither, sequence_kind, step_kind}
-pub use Rattle.cpu_rows.specs.declared.row.CpuStep.TheVariants.{Fence, Grow, Leave, Pop, PopBatch, Push, SetCap, Start, Stock, Stop, Take}
+pub use Rattle.cpu_rows.specs.declared.row.CpuStep.TheVariants.{Grow, Pop, PopBatch, Push, Stock}
 pub use Rattle.cpu_slab.{specs.Caps.cap_fault, specs.Caps.set_unless, specs.declared.slab.CapFault.CapFault}
 pub use Rattle.cpu_slab.proofs.SlabFacts.{row_other, row_same, row_sound}
 pub use Rattle.cpu_slab.specs.Slots.{CpuSlab, SlabRow, held, no_row, row_at, with_row}
@@ -52,9 +50,7 @@ pub use Rattle.rseq_core.specs.Acts.{IsCurrent, answered, arrival, dropped, ente
 pub use Rattle.rseq_core.specs.Acts.{with_cell}
 pub use Rattle.rseq_core.specs.Tables.{Cell, cell, closes as closed_by, copy_or_commit, counted, is_pop, wanted}
 pub use Rattle.rseq_core.specs.declared.sequence.Pc.TheVariants.{Begin, Commit, Copy, Header, Test}
-pub use Rattle.rseq_core.specs.declared.sequence.Reply.TheVariants.{Empty, Full, Popped, Pushed, Stopped}
 pub use Rattle.std.proofs.{Math.Nat.mod-lt, lemmas.List.length-replicate, lemmas.List.length-reverse}
 pub use Rattle.tc_model.{specs.declared.calls.MoveTo.MoveTo, specs.declared.config.Config.Config}
 pub use Rattle.tc_model.proofs.Lists.{set_elsewhere, set_here, set_there}
 pub use Rattle.tc_model.specs.declared.answers.Answer.TheVariants.{Busy, CapSet, OverLimit, OverStatic}
-pub use Rattle.tc_units.specs.declared.units.CpuNo.{CpuNo}

@@ -5,7 +5,6 @@ use Rattle.cpu_rows.proofs.Common.{Config, Regs, HAND_ROOM, LOADED_ROOM, emptied
 use Rattle.cpu_rows.proofs.Common.{Asking, Giving, CpuStep, DomainStep, Next, no_class, row_of, leaving, takes, put_in, domain_acts}
 use Rattle.cpu_rows.proofs.Common.{about_row, as_row, FitsDomain, AreRows, DomainShape, HasRoom, Here, at_next, regs_next, IsNext, IsAct}
 use Rattle.cpu_rows.proofs.Common.{Domain, seated, cpu_stored, left_with, cpu_front, limits_of, objects_append, objects_last}
-use Rattle.call_steps.specs.declared.step.Giving.TheVariants as giving
 use Rattle.call_steps.specs.declared.step.Next.TheVariants as next
 use Rattle.cpu_rows.specs.declared.row.CpuRow.TheVariants as front
 use Rattle.cpu_rows.specs.declared.row.DomainStep.TheVariants as domain
@@ -64,12 +63,7 @@ module _ (rows : List ClassRow) (c : Config) (t : ℕ) (q : Transfer) (v : CpuSe
   -- Put: it takes the whole hand, and what comes behind that comes at once
   put_by : (w : Giving CpuStep) → DomainShape (limits_of rows c) (seated v g) (domain.Put w) → length q.objects + length g.hand.items ≤ q.room
       → Goes (domain.Put w) (put_in q g.hand.items) put (next.Gave (as_row w))
-  put_by (giving.Rest s) shape fits = put_as (giving.Rest s) fits (refl, refl) still (record { begin = shape.0.begin; regs = λ b. b; stands = refl })
-  put_by (giving.Freed f) shape fits = put_as (giving.Freed f) fits (refl, refl) still (record { begin = shape.0.begin; regs = λ b. b; stands = refl })
-  put_by (giving.Row k to) shape fits =
-      put_as (giving.Row k to) fits (refl, refl, (shape.1.class, shape.1.other)) (record { thread = refl; loaded = refl; ran = omega arith; epoch = refl; pc = λ pc. pc })
-      (record { begin = shape.0.begin; regs = λ b. shape.1.shape (seated v (record g { class = k; hand = emptied g.hand })) (record { begin = b; hand = refl; freed = refl }) refl; stands = refl })
-  put_by giving.End shape fits = put_as giving.End fits (refl, refl) still (record { begin = shape.0.begin; regs = λ b. b; stands = refl })
+  put_by w shape fits = grind (arith, put_as)
 
   -- or the shard is to get it
   give_by : (w : Giving CpuStep) → DomainShape (limits_of rows c) (seated v g) (domain.Put w) → Goes (domain.Put w) q g (next.Give (as_row w))

@@ -1,13 +1,10 @@
 -- What an act of a local leaves of its CPU's open mark and of the thread's own sequence.
-use Rattle.std.proofs.Common.{◌≡◌, ℕ, ◌+◌, ◌<◌, ◌≤◌, ◌⊎◌, Bool, true, false, ltb, List, Option, Some, None, refl, sym, ap, subst}
+use Rattle.std.proofs.Common.{◌≡◌, ℕ, ◌+◌, ◌<◌, ◌≤◌, ◌⊎◌, Bool, true, false, List, Option, Some, None, refl, sym, ap, subst}
 use Rattle.std.proofs.Common.{inr, arith, not, ◌||◌, is_some, length}
-use Rattle.cpu_rows.proofs.Common.{cond_both, ltb-true, ltb-false, ClassRow, MoveTo, CpuPart, LOADED_ROOM, Pc, Begin, Header}
-use Rattle.cpu_rows.proofs.Common.{Test, Copy, Commit, Seq, Reply, Cell, wanted, copy_or_commit, runs, open_after}
-use Rattle.cpu_rows.proofs.Common.{instruction, entered, arrival, instructed_by, CpuStep, Pop, Grow}
-use Rattle.cpu_rows.proofs.Common.{Stock, Push, PopBatch, Local, Step, goes, no_class, class_row}
-use Rattle.cpu_rows.proofs.Common.{instructs, sequence_by, runs_open, yields_to_enter, with_next}
-use Rattle.cpu_rows.proofs.Common.{cpu_row, yields_for, AreRows, Limits, at_step, RegsAt, about_cpu, Kind, enters, closes, neither, instructed_kind}
-use Rattle.cpu_rows.proofs.Common.{sequence_kind, step_kind}
+use Rattle.cpu_rows.proofs.Common.{ClassRow, MoveTo, CpuPart, LOADED_ROOM, Pc, Begin, Header, Test, Copy, Commit, Seq, Reply, Cell, wanted, copy_or_commit}
+use Rattle.cpu_rows.proofs.Common.{runs, open_after, instruction, entered, arrival, instructed_by, CpuStep, Pop, Grow, Stock, Push, PopBatch, Local, Step, goes}
+use Rattle.cpu_rows.proofs.Common.{no_class, class_row, instructs, sequence_by, runs_open, yields_to_enter, with_next, cpu_row, yields_for, AreRows, Limits}
+use Rattle.cpu_rows.proofs.Common.{at_step, RegsAt, about_cpu, Kind, enters, closes, neither, instructed_kind, sequence_kind, step_kind}
 use Rattle.cpu_drain.proofs.Steps.{runs_is}
 use Rattle.call_steps.specs.declared.step.Step.TheVariants as does
 use Rattle.cpu_rows.specs.declared.row.CpuRow.TheVariants as front
@@ -73,9 +70,7 @@ DoesAs neither p l x = Executes p l x ⊎ Stays p l x
 
 -- what is copied next, or the commit behind the last
 copies_few : (done count : ℕ) → done ≤ count → count ≤ LOADED_ROOM → CopiesFew count (copy_or_commit done count) × (executed count (copy_or_commit done count) ≡ 3 + done)
-copies_few done count low few =
-    cond_both (ltb done count) (Copy done) Commit (λ (pc : Pc). CopiesFew count pc × (executed count pc ≡ 3 + done))
-    (λ e. ((ltb-true done count e, few), refl)) (λ e. (few, omega (arith, ltb-false done count e)))
+copies_few done count low few = grind (arith)
 
 -- the mark stays behind an instruction without a reply
 open_stays : (pc : Pc) (o : Option Reply) (was : Bool) → o ≡ None → was ≡ true → open_after pc o was ≡ true

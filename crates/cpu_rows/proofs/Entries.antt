@@ -1,10 +1,9 @@
 -- Entries, and acts elsewhere: a thread comes to a row of the caches, or from one, or its registers change.
 use Rattle.std.proofs.Common.{◌≡◌, ℕ, ◌<◌, ◌≤◌, true, List, [], ◌∷◌, length, Option, Some, None, refl, ap, arith, IfSome, is_some, slice_set}
-use Rattle.cpu_rows.proofs.Common.{Contents, Addr, Class, ClassRow, Call, Drain, Resize, MoveTo, Planned, Config, Seq, Begin, Regs}
-use Rattle.cpu_rows.proofs.Common.{LOADED_ROOM, CpuSeat, Asking, Serving, Freeing, CpuRow, CpuStep, Other, cpu_calls, to_sequence, move_of, with_move}
-use Rattle.cpu_rows.proofs.Common.{stop_row, to_stop, leave_row, about_row, AreRows, IsAtBegin, CpuShape, IsMove, IsCallThere, limits_of, At, Here, Later}
-use Rattle.cpu_rows.proofs.Common.{Away, Standing, stand, at_row, IsAsked, with_hand, IsOwn, AreEntries, IsEntry, CpuFrontPart, seated, cpu_planned, seat_at}
-use Rattle.cpu_rows.proofs.Common.{CpuHolds}
+use Rattle.cpu_rows.proofs.Common.{Contents, Addr, Class, ClassRow, Call, Drain, Resize, MoveTo, Planned, Config, Seq, Begin, Regs, LOADED_ROOM, CpuSeat}
+use Rattle.cpu_rows.proofs.Common.{Asking, Serving, Freeing, CpuRow, CpuStep, Other, cpu_calls, to_sequence, with_move, stop_row, to_stop, leave_row, about_row}
+use Rattle.cpu_rows.proofs.Common.{AreRows, IsAtBegin, CpuShape, IsCallThere, limits_of, At, Here, Later, Away, Standing, stand, at_row, IsAsked, with_hand}
+use Rattle.cpu_rows.proofs.Common.{IsOwn, AreEntries, IsEntry, CpuFrontPart, seated, cpu_planned, seat_at, CpuHolds}
 use Rattle.rseq_core.specs.declared.sequence.Seq.TheVariants as seq
 use Rattle.cpu_rows.specs.declared.row.Stopping.TheVariants as stopping
 use Rattle.cpu_rows.specs.declared.row.CpuRow.TheVariants as front
@@ -46,13 +45,7 @@ module _ (rows : List ClassRow) (c : Config) where
         (record { thread = refl; loaded = refl; ran = omega arith; epoch = refl; pc = λ pc. pc }) (λ b. record { begin = b; regs = λ new. new; stands = refl }) h
 
     pub begins : (o : Option Planned) → IfSome o (cpu_planned rows c) → StandsAt g count Away → Is n ps (slice_set us t (stand (with_move v o) g count Away))
-    begins o planned h =
-        changes rows c n n t ps us (stand v g count Away) (stand (with_move v o) g count Away) (omega arith)
-        (λ x. record { thread = x.thread; home = x.home; domains = x.domains; move = moved o planned; loaded = x.loaded; ran = x.ran; regs = x.regs })
-        (λ i p x part ok. ok) h where
-          moved : (o : Option Planned) → IfSome o (cpu_planned rows c) → IsMove (limits_of rows c) (move_of o)
-          moved None planned = tt
-          moved (Some p) planned = planned.move
+    begins o planned h = grind (arith, changes rows c n n t ps us (stand v g count Away) (stand (with_move v o) g count Away))
 
     -- the rows with which calls begin and go on
     enters : (new : Regs) (row : CpuStep) → KeepsRegs rows c g new → (IsAtBegin new → CpuShape (limits_of rows c) (seated v new) row)

@@ -1,8 +1,6 @@
 -- Objects that a reply moves between a row and the hand.
 use Rattle.std.proofs.Common.{◌≡◌, ℕ, ◌+◌, arith}
-use Rattle.cpu_rows.proofs.Common.{SlabRow, held, Regs, Instructed}
-use Rattle.cpu_rows.proofs.Common.{AnswerMoves, objects_at}
-use Rattle.cpu_rows.proofs.Common.{objects_append, objects_cut, objects_reverse}
+use Rattle.cpu_rows.proofs.Common.{SlabRow, held, Regs, Instructed, AnswerMoves, objects_at, objects_append, objects_cut, objects_reverse}
 
 -- so an answer
 pub answer_moves : (answer : Instructed) (old new : SlabRow) (r after : Regs) → AnswerMoves answer old new r after → (n : ℕ)

@@ -1,12 +1,9 @@
 -- What an act of the per-CPU caches hands on may come next in its call.
-use Rattle.std.proofs.Common.{◌≡◌, true, eqb, List, Option, Some, ap, sym, subst, ◌∙◌, arith}
-use Rattle.cpu_rows.proofs.Common.{cond_both, Class, ThreadNo, ClassRow, Drain, MoveTo, Busy, CapFault}
-use Rattle.cpu_rows.proofs.Common.{CpuPart, Regs, Reply, Instructed, IsOther, cpu_refuses, CpuSeat}
-use Rattle.cpu_rows.proofs.Common.{Asking, Draining, Resizing, Stopping, Giving, Next, CpuRow, CpuStep}
-use Rattle.cpu_rows.proofs.Common.{Asks, Other, about_giving, Left, looks_on, gives, after_pop}
-use Rattle.cpu_rows.proofs.Common.{instructed_to, sequence_by, stops, drains_on, cap_answer, started, left_for, cpu_acts}
-use Rattle.cpu_rows.proofs.Common.{is_refusal, HasObject, ComesWith, FitsCpu}
-use Rattle.cpu_rows.proofs.Common.{about_cpu, about_row, call_of, as_row}
+use Rattle.std.proofs.Common.{◌≡◌, true, eqb, List, Option, Some, sym, ◌∙◌, arith}
+use Rattle.cpu_rows.proofs.Common.{cond_both, Class, ThreadNo, ClassRow, Drain, MoveTo, Busy, CapFault, CpuPart, Regs, Reply, Instructed, IsOther, cpu_refuses}
+use Rattle.cpu_rows.proofs.Common.{CpuSeat, Asking, Draining, Resizing, Stopping, Giving, Next, CpuRow, CpuStep, Asks, Other, about_giving, Left, looks_on}
+use Rattle.cpu_rows.proofs.Common.{gives, after_pop, instructed_to, sequence_by, stops, drains_on, cap_answer, started, left_for, cpu_acts, is_refusal}
+use Rattle.cpu_rows.proofs.Common.{HasObject, ComesWith, FitsCpu, about_cpu, about_row, call_of, as_row}
 use Rattle.rseq_core.specs.declared.sequence.Reply.TheVariants as reply
 use Rattle.rseq_core.specs.declared.answers.Instructed.TheVariants as instructed
 use Rattle.rseq_core.specs.Acts as rseq
@@ -82,6 +79,4 @@ module _ (Serves : Regs → Type 0) (rows : List ClassRow) (v : CpuSeat) where
 -- Where the act fits, an allocation is served with an object in hand.
 module _ (rows : List ClassRow) (v : CpuSeat) where
   pub cpu_may : (p : CpuPart) (r : Regs) (row : CpuStep) → FitsCpu rows p v r row → MayCome (HasObject rows) rows v (front.Cpu row) (cpu_acts rows p v r row)
-  cpu_may p r row fits =
-      cpu_comes (HasObject rows) rows v p r row (λ a is done. (let own : FitsCpu rows p v r (cpu.Pop a) = subst (FitsCpu rows p v r) is fits in
-      let x = own.1 done in (x.0, omega (arith, ap (λ (k : Class). k.0) x.1, own.0.class))))
+  cpu_may p r row fits = grind (arith, cpu_comes (HasObject rows) rows v p r row)

@@ -1,9 +1,9 @@
 -- The part of a row is there, and a part changes with the standing of a thread.
-use Rattle.std.proofs.Common.{◌≡◌, ℕ, ◌+◌, ◌*◌, ◌<◌, ◌≤◌, List, length, Some, refl, sym, ap, ◌∙◌, subst, inl, inr, arith, slice_get, slice_set}
-use Rattle.cpu_rows.proofs.Common.{mod-lt, cond_both, cases_eq, length-set, Class, ClassRow, Config, set_here, set_elsewhere, CpuPart, Regs, CpuOk, SeatOk}
-use Rattle.cpu_rows.proofs.Common.{SeatKeeps, Transfer, CpuSeat, Stopping, CpuRow, CpuStep, DomainStep, at_cpu, cpu_of, domain_of, thread_no, IsStop}
-use Rattle.cpu_rows.proofs.Common.{CpuShape, DomainShape, Limits, HasRoom, IsSlabOf, Standing, CpuFrontPart, Cpu, Domain, seated, seat_at, IsSeated}
-use Rattle.cpu_rows.proofs.Common.{ArePlaced, CpuHolds}
+use Rattle.std.proofs.Common.{◌≡◌, ℕ, ◌+◌, ◌*◌, ◌<◌, ◌≤◌, List, length, Some, refl, sym, ap, ◌∙◌, subst, arith, slice_get, slice_set}
+use Rattle.std.proofs.lemmas.Bool.Decides.{nat_tests}
+use Rattle.cpu_rows.proofs.Common.{mod-lt, cond_both, length-set, Class, ClassRow, Config, set_here, set_elsewhere, CpuPart, Regs, CpuOk, SeatOk, SeatKeeps}
+use Rattle.cpu_rows.proofs.Common.{Transfer, CpuSeat, Stopping, CpuRow, CpuStep, DomainStep, at_cpu, cpu_of, domain_of, thread_no, IsStop, CpuShape}
+use Rattle.cpu_rows.proofs.Common.{DomainShape, Limits, HasRoom, IsSlabOf, Standing, CpuFrontPart, Cpu, Domain, seated, seat_at, IsSeated, ArePlaced, CpuHolds}
 use Rattle.cpu_rows.proofs.Lists.{Here, IsSet, There, set_once}
 
 -- the CPU of a row is there
@@ -36,12 +36,7 @@ module _ (rows : List ClassRow) (c : Config) where
   -- what stands at a place where one part was set
   at_place : (ps : List CpuFrontPart) (i j : ℕ) (old new x : CpuFrontPart) (P : CpuFrontPart → Type 0) → slice_get ps i ≡ Some old → slice_get ps j ≡ Some x
       → (old ≡ x → P new) → P x → (y : CpuFrontPart) × (slice_get (slice_set ps i new) j ≡ Some y) × P y
-  at_place ps i j old new x P at is here there =
-      elim (cases_eq i j) [
-        | inl same ↦ (let e : Some old ≡ Some x = sym at ∙ (ap (slice_get ps) same ∙ is) in
-            (new, subst (λ n. slice_get (slice_set ps i new) n ≡ Some new) same (set_here ps i new old at), here (cc)))
-        | inr apart ↦ (x, set_elsewhere ps i j new apart ∙ is, there)
-      ]
+  at_place ps i j old new x P at is here there = grind (arith, nat_tests, set_here ps i new old, here, set_elsewhere ps i j new)
 
   pub placed_set : (ps : List CpuFrontPart) (i : ℕ) (old new : CpuFrontPart) → slice_get ps i ≡ Some old → IsSameKind old new → ArePlaced rows c ps
       → ArePlaced rows c (slice_set ps i new)
@@ -69,11 +64,7 @@ module _ (rows : List ClassRow) (c : Config) where
         placed = placed_set ps i (Domain k old) (Domain k new) at refl h.placed;
         cpu_is_sound = λ j p is. h.cpu_is_sound j p (cpu_was j p is);
         slab_is_of_heads = λ j p is. h.slab_is_of_heads j p (cpu_was j p is);
-        cache_has_room = λ j m q is.
-            elim (set_once ps i (Domain k old) (Domain k new) j (Domain m q) at is) [
-              | Here here now was ↦ subst (HasRoom c.transfer) (let e : new ≡ q = cc in e) room
-              | There apart there ↦ h.cache_has_room j m q there
-            ];
+        cache_has_room = grind (arith, set_once ps i (Domain k old) (Domain k new), h.cache_has_room);
         epoch_is_within_picks = λ j p is. h.epoch_is_within_picks j p (cpu_was j p is);
         threads = h.threads;
         seats_agree = λ j t p s is there. h.seats_agree j t p s (cpu_was j p is) there;

@@ -1,12 +1,11 @@
 -- Acts of threads with a sequence or a growth, by what the sequence replied.
-use Rattle.std.proofs.Common.{◌≡◌, refl, ℕ, ◌+◌, ◌<◌, ◌≤◌, Bool, true, false, [], ◌∷◌, List, length, get_or, Option, Some, None, ap, sym, ◌∙◌, subst}
-use Rattle.std.proofs.Common.{arith}
-use Rattle.cpu_rows.proofs.Common.{cond_both, length-append, length-drop, Addr, Class, MoveTo, SlabRow, row_at, row_sound, CpuPart, Regs, LOADED_ROOM}
-use Rattle.cpu_rows.proofs.Common.{Seq, Reply, Instructed, Grew, is_pop, wanted, AnswerMoves, ReplyMoves, AreOfSame, Instructs}
-use Rattle.cpu_rows.proofs.Common.{Grows, instruct_does, grow_does, objects_at, CpuSeat, Asking, Serving, Freeing, CpuStep, Next, no_class, row_of, thread_no}
-use Rattle.cpu_rows.proofs.Common.{leaving, gives, at_cpu_next, due, after_stock, replied, instructed_to, sequence_by, sequence, grew_to}
-use Rattle.cpu_rows.proofs.Common.{about_cpu, at_cpu, FitsSequence, most_slots, BeginsWith, IsAtBegin, HasNone, CpuShape, cpu_standing, IsAsked, seated}
-use Rattle.cpu_rows.proofs.Common.{limits_of}
+use Rattle.std.proofs.Common.{◌≡◌, refl, ℕ, ◌+◌, ◌<◌, ◌≤◌, Bool, true, false, [], ◌∷◌, List, length, Option, Some, None, ap, sym, ◌∙◌, subst, arith}
+use Rattle.std.proofs.lemmas.List.{nil_from_length}
+use Rattle.cpu_rows.proofs.Common.{cond_both, length-append, length-drop, Addr, Class, MoveTo, SlabRow, row_at, row_sound, CpuPart, Regs, LOADED_ROOM, Seq}
+use Rattle.cpu_rows.proofs.Common.{Reply, Instructed, Grew, is_pop, wanted, AnswerMoves, ReplyMoves, AreOfSame, Instructs, Grows, instruct_does, grow_does}
+use Rattle.cpu_rows.proofs.Common.{CpuSeat, Asking, Serving, Freeing, CpuStep, Next, no_class, row_of, thread_no, leaving, gives, at_cpu_next, due, after_stock}
+use Rattle.cpu_rows.proofs.Common.{replied, instructed_to, sequence_by, sequence, grew_to, about_cpu, at_cpu, FitsSequence, most_slots, BeginsWith, IsAtBegin}
+use Rattle.cpu_rows.proofs.Common.{HasNone, CpuShape, cpu_standing, IsAsked, seated, limits_of}
 use Rattle.cpu_drain.specs.Laws.{HasRoom}
 use Rattle.rseq_core.proofs.Able.{able_from_agrees}
 use Rattle.rseq_core.specs.declared.sequence.Seq.TheVariants as seq
@@ -19,7 +18,7 @@ use Rattle.call_steps.specs.declared.step.Giving.TheVariants as giving
 use Rattle.cpu_rows.specs.declared.row.CpuRow.TheVariants as front
 use Rattle.cpu_rows.specs.declared.row.CpuStep.TheVariants as cpu
 use Rattle.cpu_rows.proofs.Moves.{answer_moves}
-use Rattle.cpu_rows.proofs.Acts.{Acts, Does, GoesOn, IsBehind, IsMoved, IsThere, Keeps, Turn, agrees_of, as_left, gives_away, goes, goes_on, hand_same}
+use Rattle.cpu_rows.proofs.Acts.{Acts, Does, GoesOn, IsBehind, IsMoved, IsThere, Keeps, Turn, agrees_of, as_left, gives_away, goes_on, hand_same}
 use Rattle.cpu_rows.proofs.Acts.{home_of, leave_acts, looks, seat, still}
 
 -- the thread's move
@@ -38,10 +37,6 @@ no_push s x is way pushes = let e : true ≡ false = way_apart s x true is way f
 
 wants : (g : Regs) (s : Seq) → g.seq ≡ s → wanted g.seq g.hand.items ≡ wanted s g.hand.items
 wants g s is = ap (λ (x : Seq). wanted x g.hand.items) is
-
-empty_by : (xs : List Addr) → length xs ≡ 0 → xs ≡ []
-empty_by [] is = refl
-empty_by (x ∷ xs) is = absurd (omega (arith, is))
 
 begins_by : (a : Addr) (xs others : List Addr) → xs ≡ a ∷ others → BeginsWith a xs
 begins_by a xs others is = subst (λ (ys : List Addr). BeginsWith a ys) (sym is) refl
@@ -94,14 +89,7 @@ module _ (turn : Turn) where
   answers : (row : CpuStep) (new : CpuPart) (r : Regs) (a : Instructed) → There row → IsRow row → AreOfSame g r
       → Instructs p g (record { cpu = new; regs = r; answer = a }) → Keeps turn row new (seats.with_regs (seat turn row) r)
       → (let n = instructed_to rows v r row a in Acts turn row (leaving new v n.0 n.1))
-  answers row new r answer.In there x same y keeps = stays_on row new r there x same y.moves.hand (moved_of new r answer.In y same) keeps
-  answers row new r answer.Back there x same y keeps = stays_on row new r there x same y.moves.hand (moved_of new r answer.Back y same) keeps
-  answers row new r answer.Ran there x same y keeps = stays_on row new r there x same y.moves.hand (moved_of new r answer.Ran y same) keeps
-  answers row new r (answer.Done o) there x same y keeps =
-      let n : Regs × Next = replied rows v r row o in
-      let z : Replied row r n.0 n.1 = x.replies (row_at p.slab g.class.0) (row_at new.slab g.class.0) r o y.moves
-      (record { pc = y.begins.pc; nothing = y.begins.nothing }) same in
-      goes turn row new r n.0 (cpu_standing rows g.class.0 row) None n.1 there (moved_of new r (answer.Done o) y same) z.0 z.1 (x.none g.class.0) keeps
+  answers row new r a there x same y keeps = grind (arith, stays_on, moved_of)
 
   acts_by : (row : CpuStep) → There row → IsRow row → (o : Option MoveTo) → due v.moved g.ran ≡ o → Acts turn row (sequence_by rows p v g row o)
   acts_by row there x (Some move) is = grind (arith, due_is, goes_on, hand_same, leave_acts)
@@ -133,27 +121,17 @@ module _ (turn : Turn) where
 
   pub pop_does : (a : Asking) → There (cpu.Pop a) → Does turn (cpu.Pop a)
   pop_does a there =
-      let shape : Shape v g (cpu.Pop a) = there.sits.regs in
-      let x = rseq.instructed p g in
-      let moved = instruct_does (length rows) p g there.part there.ready.class (agrees_of turn (cpu.Pop a) there) in
-      let want = wants g seq.Pop shape.0.seq in
-      let row : IsRow (cpu.Pop a) = record {
-        here = refl;
-        none = λ k. refl;
-        stays = λ w r s class hand. (record { seq = s ∙ shape.0.seq; freed = refl }, hand ∙ shape.1, asked_still r a shape.2 class);
-        replies = pop_replies a shape;
-        rooms = λ pops. record { loaded = omega (arith, want, there.sits.loaded); hand = omega (arith, want, there.ready.room, ap length shape.1) };
-      } in
-      record {
-        fits = (
-          fits (cpu.Pop a) there row,
-          λ done. (
-            pops_some (row_at p.slab g.class.0) (row_at x.cpu.slab g.class.0) x shape.0.seq moved.moves done,
-            moved.class,
-          ),
-        );
-        acts = acts (cpu.Pop a) there row;
-      }
+      grind (
+        arith,
+        instruct_does (length rows) p g there.part there.ready.class (agrees_of turn (cpu.Pop a) there),
+        agrees_of turn (cpu.Pop a) there,
+        wants g seq.Pop,
+        asked_still,
+        pop_replies a,
+        fits (cpu.Pop a) there,
+        pops_some (row_at p.slab g.class.0),
+        acts (cpu.Pop a) there,
+      )
 
   -- Stock
   rest_behind : (s : Serving) (r : Regs) (xs : List Addr) → r.hand.items ≡ xs → length r.hand.items ≤ most_slots → IsAtBegin r
@@ -163,19 +141,8 @@ module _ (turn : Turn) where
   pub stock_does : (s : Serving) → There (cpu.Stock s) → Does turn (cpu.Stock s)
   stock_does s there =
       let shape : Shape v g (cpu.Stock s) = there.sits.regs in
-      let row : IsRow (cpu.Stock s) = record {
-        here = refl;
-        none = λ k. refl;
-        stays = λ w r e class hand. (
-          record { seq = e ∙ shape.0.seq; freed = refl },
-          omega (arith, ap length hand, shape.1),
-          omega
-              (arith, ap length hand, shape.2),
-        );
-        replies = λ old new r o moves begin same. left_so (cpu.Stock s) r _ begin
-            (rest_behind s r r.hand.items refl (omega (arith, reply_few old new g r o moves, wants g seq.PushBatch shape.0.seq, shape.2)) begin);
-        rooms = λ pops. absurd (no_pop g.seq seq.PushBatch shape.0.seq refl pops);
-      } in
+      let row : IsRow (cpu.Stock s) =
+      grind (arith, left_so (cpu.Stock s), rest_behind s, reply_few, wants g seq.PushBatch shape.0.seq, no_pop g.seq seq.PushBatch shape.0.seq refl) in
       record { fits = fits (cpu.Stock s) there row; acts = acts (cpu.Stock s) there row }
 
   -- Push, and PopBatch: the object of a free is given away with what is behind it
@@ -184,37 +151,24 @@ module _ (turn : Turn) where
   freed_behind row f r others is hand few begin = grind (arith, begins_by, gives_away, left_so)
 
   push_replies : (f : Freeing) → Shape v g (cpu.Push f) → Replies (cpu.Push f)
-  push_replies f shape old new r given moves begin same = grind (arith, begins_by, empty_by, freed_behind, goes_on, left_so, length-drop, no_pop, wants)
+  push_replies f shape old new r given moves begin same = grind (arith, begins_by, nil_from_length, freed_behind, goes_on, left_so, length-drop, no_pop, wants)
 
   pub push_does : (f : Freeing) → There (cpu.Push f) → Does turn (cpu.Push f)
-  push_does f there =
-      let shape : Shape v g (cpu.Push f) = there.sits.regs in
-      let row : IsRow (cpu.Push f) = record {
-        here = refl;
-        none = λ k. refl;
-        stays = λ w r e class hand. (record { seq = e ∙ shape.0.seq; freed = refl }, hand ∙ shape.1);
-        replies = push_replies f shape;
-        rooms = λ pops. absurd (no_pop g.seq seq.Push shape.0.seq refl pops);
-      } in
-      record { fits = fits (cpu.Push f) there row; acts = acts (cpu.Push f) there row }
+  push_does f there = grind (arith, push_replies f, no_pop g.seq seq.Push, fits (cpu.Push f) there, acts (cpu.Push f) there)
 
   batch_replies : (f : Freeing) → wanted g.seq g.hand.items ≤ LOADED_ROOM → Shape v g (cpu.PopBatch f) → Replies (cpu.PopBatch f)
   batch_replies f few shape old new r given moves begin same = grind (arith, freed_behind, no_push)
 
   pub batch_does : (f : Freeing) → There (cpu.PopBatch f) → Does turn (cpu.PopBatch f)
   batch_does f there =
-      let shape : Shape v g (cpu.PopBatch f) = there.sits.regs in
-      let few : wanted g.seq g.hand.items ≤ LOADED_ROOM = omega
-      (arith, wants g (seq.PopBatch (row_of rows g.class).batch) shape.0.seq, (there.are.each g.class.0 no_class there.ready.class).few) in
-      let row : IsRow (cpu.PopBatch f) = record {
-        here = refl;
-        none = λ k. refl;
-        stays = λ w r e class hand.
-            (record { seq = e ∙ (shape.0.seq ∙ ap (λ (k : Class). seq.PopBatch (get_or rows k.0 no_class).batch) (sym class)); freed = refl }, hand ∙ shape.1);
-        replies = batch_replies f few shape;
-        rooms = λ pops. record { loaded = omega (arith, few, there.sits.loaded); hand = omega (arith, few, there.ready.room, ap length shape.1) };
-      } in
-      record { fits = fits (cpu.PopBatch f) there row; acts = acts (cpu.PopBatch f) there row }
+      grind (
+        arith,
+        wants g (seq.PopBatch (row_of rows g.class).batch),
+        there.are.each g.class.0 no_class there.ready.class,
+        batch_replies f,
+        fits (cpu.PopBatch f) there,
+        acts (cpu.PopBatch f) there,
+      )
 
   -- Grow
   grow_behind : (a : Asking) (r : Regs) (o : Grew) → HasNone (seated v r) → IsAsked rows r a → Behind (cpu.Grow a) r (grew_to v a o)
@@ -227,13 +181,7 @@ module _ (turn : Turn) where
       let y : Grows p g x = grow_does (length rows) p g there.part there.ready.class in
       let begin = y.begins (record { pc = shape.0.begin.pc; nothing = shape.0.begin.nothing }) in
       let none : HasNone (seated v x.regs) = pop_none x.regs shape.0.hand (record { pc = begin.pc; nothing = begin.nothing }) y.hand in
-      let m : IsMoved turn x.cpu x.regs = record {
-        same = y.same;
-        ran = omega (arith, y.ran);
-        epoch = y.epoch;
-        others = λ k n apart. ap (objects_at n) (y.rows k);
-        moves = λ n. omega (arith, ap (objects_at n) (y.rows g.class.0), ap (objects_at n) y.hand);
-      } in
+      let m : IsMoved turn x.cpu x.regs = grind (arith, y.rows g.class.0) in
       record {
         fits = (omega (arith, there.part.classes, there.ready.class), omega (arith, there.epoch));
         acts = still turn (cpu.Grow a) x.cpu x.regs None None (grew_to v a x.answer) there m

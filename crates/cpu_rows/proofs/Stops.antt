@@ -1,13 +1,11 @@
 -- Acts of a thread that stops a CPU, and of one that leaves it at the end of its call.
-use Rattle.std.proofs.Common.{◌≡◌, refl, ℕ, ◌+◌, ◌*◌, ◌<◌, ◌≤◌, Bool, true, [], ◌∷◌, List, length, reverse, Option, Some, None, ap, sym, ◌∙◌}
-use Rattle.std.proofs.Common.{subst, inr, arith, is_some}
+use Rattle.std.proofs.Common.{◌≡◌, refl, ℕ, ◌+◌, ◌*◌, ◌<◌, ◌≤◌, Bool, true, [], ◌∷◌, List, length, reverse, Option, Some, None, ap, sym, ◌∙◌, arith, is_some}
 use Rattle.cpu_rows.proofs.Common.{cond_both, cases_eq, eqb-true, eq-eqb, lt-ltb, ltb-true, ltb-false, le-ltb, length-append, length-reverse, Contents, Addr}
-use Rattle.cpu_rows.proofs.Common.{Class, CpuNo, ThreadNo, Drain, Resize, MoveTo, CapFault, SlabRow, CpuSlab, row_at, held, cap_fault}
-use Rattle.cpu_rows.proofs.Common.{set_unless, row_same, row_other, CpuPart, Regs, IsHeld, Takes, take_does, objects_at, IsOther, Draining}
-use Rattle.cpu_rows.proofs.Common.{Resizing, Stopping, CpuStep, Next, Other, leaving, at_cpu_next, stops, drained, took, cap_answer}
-use Rattle.cpu_rows.proofs.Common.{left_for, about_cpu, at_cpu, cpu_of, taken_by, thread_no, AreRows, most_slots}
-use Rattle.cpu_rows.proofs.Common.{never, below, alone, empty_to_take, cpu_standing, IsStop, IsAtFirst, IsAtBegin, IsToCome}
-use Rattle.cpu_rows.proofs.Common.{CpuShape, Limits, limits_of, seated, objects_append, objects_reverse}
+use Rattle.cpu_rows.proofs.Common.{Class, CpuNo, ThreadNo, Drain, Resize, MoveTo, CapFault, SlabRow, CpuSlab, row_at, held, cap_fault, set_unless, row_same}
+use Rattle.cpu_rows.proofs.Common.{row_other, CpuPart, Regs, IsHeld, Takes, take_does, objects_at, IsOther, Draining, Resizing, Stopping, CpuStep, Next}
+use Rattle.cpu_rows.proofs.Common.{Other, leaving, at_cpu_next, stops, drained, took, cap_answer, left_for, about_cpu, at_cpu, cpu_of, taken_by, thread_no}
+use Rattle.cpu_rows.proofs.Common.{AreRows, most_slots, never, below, alone, empty_to_take, cpu_standing, IsStop, IsAtFirst, IsAtBegin, IsToCome, CpuShape}
+use Rattle.cpu_rows.proofs.Common.{Limits, limits_of, seated, objects_append, objects_reverse, no_class_empty}
 use Rattle.cpu_rows.specs.CpuRows.{stands}
 use Rattle.std.proofs.Math.Path.{fun_ext}
 use Rattle.cpu_drain.specs.Drains as drains
@@ -99,18 +97,7 @@ module _ (turn : Turn) where
       → d'.cpu ≡ d.cpu → IsDrainNext (limits_of rows c) g.class d' to → (let n = drained v r xs to in TookSo (stopping.Drain d) r n.0 n.1)
   drained_so d d' r to [] is few begin same x =
       let new : Regs = record r { class = to.0 } in
-      let b : IsAtBegin new = record { pc = begin.pc; nothing = begin.nothing } in
-      let about : about_cpu to.1 ≡ about_cpu (cpu.Take (stopping.Drain d)) = x.about ∙ ap (λ (k : CpuNo). Other (Some (Drain k))) same in
-      let behind = goes_on rows c v (cpu.Take (stopping.Drain d)) to.1 g new about (omega (arith, ap length is))
-      (x.come.shape (seated v new) (record { begin = b; hand = is; freed = refl }) refl) in (
-        let at = x.stand ∙ ap (λ (k : CpuNo). stands k true (below (g.class.0 + 1))) same in
-            record {
-              like = record { thread = refl; hand = refl; loaded = refl; ran = refl; epoch = refl };
-              class = inr (x.come.class, is, tt);
-              behind = subst (λ (o : Option seats.Standing). Behind (cpu.Take (stopping.Drain d)) new o (at_cpu_next to.1)) at behind;
-            },
-        b,
-      )
+      grind (arith, goes_on rows c v (cpu.Take (stopping.Drain d)) to.1 g new, x.come.shape (seated v new))
   drained_so d d' r to (y ∷ ys) is few begin same x = grind (arith, as_left, gives_away)
 
   took_so : (s : Stopping) (r : Regs) → length r.hand.items ≤ most_slots → r.class ≡ g.class → g.class.0 < length rows → IsAtBegin r
@@ -133,28 +120,9 @@ module _ (turn : Turn) where
       let n : Regs × Next = took rows v r s in
       let z : TookSo s r n.0 n.1 = took_so s r (omega (arith, all, x.few)) refl low (record { pc = shape.0.begin.pc; nothing = shape.0.begin.nothing })
       shape.1 in
-      let m : IsMoved turn (drains.taken p k) r = record {
-        same =
-            record { thread = refl; class = refl; seq = refl; hand_room = omega (arith, none, all, back, x.all, x.few, there.ready.room); loaded_room = refl };
-        ran = omega arith;
-        epoch = omega arith;
-        others = λ j m apart. ap (λ (y : SlabRow). objects_at m (held y)) (x.others j apart);
-        moves = λ m. omega (
-          arith,
-          ap (objects_at m) x.row,
-          ap (objects_at m) x.items,
-          objects_append m g.hand.items (reverse (held (row_at p.slab k))),
-          objects_reverse m (held (row_at p.slab k)),
-        );
-      } in
+      let m : IsMoved turn (drains.taken p k) r = grind (arith, x.others, objects_append, objects_reverse) in
       record {
-        fits = record {
-          fenced = record { stopper = stopper_is (cpu.Take s) there has.stopper; fenced = has.fenced refl };
-          there = within;
-          room = omega (arith, x.all, x.few, none, there.ready.room);
-          empty = shape.0.hand;
-          few = omega (arith, x.all, x.few, taken_few (limits_of rows c) g.class s there.are low shape.1);
-        };
+        fits = grind (arith, stopper_is (cpu.Take s) there has.stopper, has.fenced refl, taken_few (limits_of rows c) g.class s there.are low shape.1);
         acts = goes turn (cpu.Take s) (drains.taken p k) r n.0 _ _ n.1 there m z.0 z.1 refl
             (lawful.takes (length rows) (cpu_of s).0 k (thread_no t) p (at (cpu.Take s)) h (empty_of k s) there.part there.pair
             (record { pc = shape.0.begin.pc; old = record { cpu = (cpu_of s).0; fenced = true; empty = empty_to_take k s }; is = refl; here = refl; fenced = refl }) low

@@ -1,12 +1,11 @@
 -- In polite orders few threads switch in: a thread that did goes on until what is open at its CPU comes to an end.
 use Rattle.std.proofs.Common.{◌≡◌, ℕ, ◌+◌, ◌<◌, ◌≤◌, ◌⊎◌, true, eqb, List, [], ◌∷◌, ◌++◌, length, Some, refl, sym, ap, ◌∙◌, subst, inl, inr, arith}
 use Rattle.std.proofs.Common.{slice_get, Option, option_map}
-use Rattle.cpu_rows.proofs.Common.{cases_eq, eq-eqb, false_from_ne_true, eqb-true, false≢true, lt-ltb, length-append, ThreadNo, CpuNo, PartNo, MOST_PICKS}
-use Rattle.cpu_rows.proofs.Common.{Input, Rules, World, start, with_pair, set_here, set_elsewhere, CpuPart, Local, Step}
-use Rattle.cpu_rows.proofs.Common.{thread_no, Part, front_of, after, rules, number, front_after}
-use Rattle.cpu_rows.proofs.Common.{front_yields, runs_open, yields_for, about_row, Kind, enters, closes, neither, act_kind, kind_at, kind_of, step_kind}
-use Rattle.cpu_rows.proofs.Common.{entry, closing, count_at, SwitchesAreFew, CpuHolds, IsSeated, cpu_planned, limits_of, IsValidInput, standing_of}
-use Rattle.cpu_rows.proofs.Common.{slice_get-map}
+use Rattle.std.proofs.lemmas.Bool.Decides.{nat_tests}
+use Rattle.cpu_rows.proofs.Common.{eq-eqb, false_from_ne_true, eqb-true, false≢true, lt-ltb, length-append, ThreadNo, PartNo, MOST_PICKS, Input, Rules, World}
+use Rattle.cpu_rows.proofs.Common.{start, with_pair, set_here, set_elsewhere, CpuPart, Local, Step, thread_no, Part, front_of, after, rules, number}
+use Rattle.cpu_rows.proofs.Common.{front_after, front_yields, runs_open, yields_for, about_row, Kind, neither, act_kind, kind_at, kind_of, step_kind, entry}
+use Rattle.cpu_rows.proofs.Common.{closing, count_at, SwitchesAreFew, CpuHolds, IsSeated, cpu_planned, limits_of, IsValidInput, standing_of, slice_get-map}
 use Rattle.alloc_rules.{proofs.First.served_first, proofs.Runs.served_kept, proofs.Serving.IsServed}
 use Rattle.alloc_rules.specs.declared.part.Part.TheVariants.{Front, Heap, Map, Names, Shard}
 use Rattle.cpu_rows.specs.Machine.{Cpu}
@@ -86,45 +85,11 @@ module _ (input : Input) (c ins ends : ℕ) (w : World Part Local) (t : ℕ) (l 
     still_open e = grind (arith, executed_few, lt-ltb, open_by, ran_by, runs_by)
 
     entered_there : Enters p l x → Balance c ins ends w → Balance c (ins + 1) (ends + 0) v
-    entered_there a (inl few) =
-        inr (record {
-          cpu = x.0;
-          thread = t;
-          local = x.1;
-          there = set_here w.parts c (Cpu x.0) (Cpu p) there;
-          mine = set_here w.locals t x.1 l mine;
-          runs = ap (λ (q : CpuPart). q.running) a.cpu ∙ runs_own;
-          marked = ap (λ (q : CpuPart). q.is_open) a.cpu;
-          home = ap (λ (n : CpuNo). n.0) a.home ∙ home_of a.has;
-          has = subst HasToEnter (sym a.step) a.has;
-          few = subst (CopiesFew x.1.regs.count) (sym a.begin) tt;
-          ran = omega (arith, ap (λ (q : CpuPart). q.ran) a.cpu);
-          one = omega arith;
-        })
+    entered_there a (inl few) = grind (arith, set_here w.parts c (Cpu x.0) (Cpu p) there, set_here w.locals t x.1 l mine, runs_own, home_of a.has)
     entered_there a (inr e) = absurd (false≢true (sym a.closed ∙ still_open e))
 
     executes_there : Executes p l x → Balance c ins ends w → Balance c (ins + 0) (ends + 0) v
-    executes_there a (inl few) = inl (omega arith)
-    executes_there a (inr e) =
-        let both : Some (thread_no e.thread) ≡ Some l.regs.thread = sym (runs_by e) ∙ a.runs in
-        let who : thread_no e.thread ≡ l.regs.thread = (cc) in
-        let own : e.local ≡ l = is_own e (ap (λ (n : ThreadNo). n.0) who ∙ thread) in
-        let next = a.few (subst (λ (k : Local). CopiesFew k.regs.count k.regs.pc) own e.few) in
-        let ran : p.ran ≤ executed l.regs.count l.regs.pc = subst (λ (k : Local). p.ran ≤ executed k.regs.count k.regs.pc) own (ran_by e) in
-        inr (record {
-          cpu = x.0;
-          thread = t;
-          local = x.1;
-          there = set_here w.parts c (Cpu x.0) (Cpu p) there;
-          mine = set_here w.locals t x.1 l mine;
-          runs = a.same ∙ (a.runs ∙ runs_own);
-          marked = a.marked (open_by e);
-          home = ap (λ (n : CpuNo). n.0) a.home ∙ home_of a.has;
-          has = subst HasToEnter (sym a.step) a.has;
-          few = next.0;
-          ran = omega (arith, a.ran, ran, next.1);
-          one = omega (arith, e.one);
-        })
+    executes_there a x1 = grind (arith, runs_by, is_own, ran_by, set_here, runs_own, open_by, home_of)
 
     stays_there : Stays p l x → Balance c ins ends w → Balance c (ins + 0) (ends + 0) v
     stays_there a (inl few) = inl (omega arith)
@@ -145,11 +110,7 @@ module _ (input : Input) (c ins ends : ℕ) (w : World Part Local) (t : ℕ) (l 
         })
 
     does_there : (k : Kind) → DoesAs k p l x → Balance c ins ends w → Balance c (ins + entry k) (ends + closing k) v
-    does_there enters a b = entered_there a b
-    does_there closes a (inl few) = inl (omega arith)
-    does_there closes a (inr e) = inl (omega (arith, e.one))
-    does_there neither (inl a) b = executes_there a b
-    does_there neither (inr a) b = stays_there a b
+    does_there k a b = grind (arith, entered_there, executes_there, stays_there)
 
 -- the kind of a pick, by the thread's place and the part there
 kind_by_place : (r : Rules Part Local) (w : World Part Local) (c t : ℕ) (l : Local) (place : PartNo) → slice_get w.locals t ≡ Some l → r.want l ≡ Some place
@@ -219,19 +180,16 @@ module _ (input : Input) (valid : IsValidInput input) (c : ℕ) (w : World Part 
 
     pub keeps : Balance c ins ends w → Behind (kind_of r w c t) (pick r w t)
     keeps b =
-        subst (λ (u : World Part Local). Behind (kind_of r w c t) u) (sym moves_to) (subst (λ (k : Kind). Behind k (with_pair w m.place.0 t (after input m.part m.local))) (sym kind_is) (
-        elim (cases_eq m.place.0 c) [
-          | inl here ↦
-              let there : slice_get w.parts c ≡ Some m.part = subst (λ n. slice_get w.parts n ≡ Some m.part) here m.part_there in
-              let at : Behind (act_kind m.local (Some m.part)) (with_pair w c t (after input m.part m.local)) = at_part m.part here there m.polite b in
-              let kind : act_kind m.local (Some m.part) ≡ kind_at w c m.local (Some m.place) = kind_here w c m.local m.place m.part here there in
-              subst (λ n. Behind (kind_at w c m.local (Some m.place)) (with_pair w n t (after input m.part m.local))) (sym here)
-              (subst (λ (k : Kind). Behind k (with_pair w c t (after input m.part m.local))) kind at)
-          | inr apart ↦
-              let kind : neither ≡ kind_at w c m.local (Some m.place) = kind_elsewhere w c m.local m.place apart in
-              subst (λ (k : Kind). Behind k (with_pair w m.place.0 t (after input m.part m.local))) kind
-              (stays_elsewhere input c ins ends w t m.local m.local_there seat.home m.place (after input m.part m.local) m.wants apart b)
-        ]))
+        grind (
+          arith,
+          nat_tests,
+          moves_to,
+          kind_is,
+          at_part m.part,
+          kind_here w c m.local m.place m.part,
+          kind_elsewhere w c m.local m.place,
+          stays_elsewhere input c ins ends w t m.local m.local_there seat.home m.place (after input m.part m.local) m.wants,
+        )
 
 few_of : (c ins ends : ℕ) (w : World Part Local) → Balance c ins ends w → ins ≤ ends + 1
 few_of c ins ends w given = grind arith

@@ -1,9 +1,8 @@
 -- The standing of a thread changes, and no part does.
-use Rattle.std.proofs.Common.{◌≡◌, ℕ, ◌≤◌, List, length, Option, refl, sym, ap, ◌∙◌, subst, arith, slice_set}
-use Rattle.cpu_rows.proofs.Common.{ClassRow, ThreadNo, Config, Begin, CpuPart, Regs, room, CpuOk, SeatOk, SeatKeeps, CpuSeat, CpuRow, IsAtBegin}
+use Rattle.std.proofs.Common.{◌≡◌, ℕ, ◌≤◌, List, length, Option, sym, ap, ◌∙◌, subst, arith, slice_set}
+use Rattle.cpu_rows.proofs.Common.{ClassRow, ThreadNo, Config, Begin, CpuPart, Regs, CpuOk, SeatOk, SeatKeeps, CpuSeat, CpuRow, IsAtBegin}
 use Rattle.cpu_rows.proofs.Common.{thread_no, At, Standing, stand, CpuFrontPart, stopping_at, seat_at, RegsAt, IsSeated, CpuHolds, limits_of}
 use Rattle.cpu_drain.specs.Seats as seats
-use Rattle.cpu_drain.proofs.Lawful as lawful
 use Rattle.cpu_rows.proofs.Lists.{Here, There, set_twice}
 
 -- no act
@@ -37,10 +36,13 @@ module _ (rows : List ClassRow) (c : Config) where
         seats_agree = λ i u p x cpu at.
             elim (set_twice us t s new u x at) [
               | Here here is was ↦
-                  let ok : SeatOk i (thread_no t) p (seat_at rows new) = agrees i p (h.threads t s was) (h.cpu_is_sound i p cpu)
-                  (h.seats_agree i t p s cpu was) in
-                  subst (λ (j : ℕ). SeatOk i (thread_no j) p (seat_at rows x)) (sym here)
-                  (subst (λ (y : Standing CpuSeat CpuRow). SeatOk i (thread_no t) p (seat_at rows y)) (sym is) ok)
+                  grind (
+                    arith,
+                    agrees i p (h.threads t s was) (h.cpu_is_sound i p cpu) (h.seats_agree i t p s cpu was),
+                    h.threads t s was,
+                    h.cpu_is_sound i p cpu,
+                    h.seats_agree i t p s cpu was,
+                  )
               | There apart there ↦ h.seats_agree i u p x cpu there
             ];
       }
@@ -66,20 +68,4 @@ module _ (rows : List ClassRow) (c : Config) where
       → count ≤ more → KeepsRegs g new → (RegsAt (limits_of rows c) v g at → Comes v g new at to)
       → CpuHolds rows c n ps (slice_set us t (stand v g count at)) → CpuHolds rows c n ps (slice_set us t (stand v new more to))
   comes n t ps us v g new count more at to le keeps come h =
-      changes n n t ps us (stand v g count at) (stand v new more to) (omega arith) (λ o. let x = come o.regs in
-      record {
-        thread = keeps.thread ∙ o.thread;
-        home = o.home;
-        domains = o.domains;
-        move = o.move;
-        loaded = ap room keeps.loaded ∙ o.loaded;
-        ran = omega (arith, keeps.ran, o.ran, le);
-        regs = x.regs (begins g new keeps x.begin);
-      }) (λ i p o part ok.
-      let x = come o.regs in
-      let b : IsAtBegin new = begins g new keeps x.begin in
-      let s : seats.Seat = seat_at rows (stand v g count at) in
-      seat_as i t p new v.cpu.0 s.standing (stand v new more to) refl refl x.stands
-      (lawful.sets (length rows) i (thread_no t) p p s s new (record { pc = b.pc; nothing = b.nothing; epoch = keeps.epoch })
-      (same_keeps (length rows) i (thread_no t) p s part ok)).both)
-      h
+      grind (arith, changes n n t ps us (stand v g count at) (stand v new more to), come, begins g new keeps, seat_as, same_keeps (length rows))
