@@ -1,8 +1,7 @@
 -- A span that is added: its first objects, and where it stands.
-use Rattle.std.proofs.Common.{◌≡◌, ℕ, zero, suc, ◌+◌, ◌-◌, ◌*◌, ◌^◌, ◌<◌, ◌≤◌, Bool, true, false, not, nat_lt, min, List, [], ◌∷◌}
+use Rattle.std.proofs.Common.{◌≡◌, ℕ, zero, suc, ◌+◌, ◌-◌, ◌*◌, ◌^◌, ◌<◌, ◌≤◌, Bool, true, false, nat_lt, min, List, [], ◌∷◌}
 use Rattle.std.proofs.Common.{◌++◌, length, get_or, set, map, replicate, count_by, Some, cond, refl, sym, ◌∙◌, ap, inl, inr, arith, subst}
 use Rattle.std.specs.Prelude.{AllPairs, All}
-use Rattle.std.specs.Option.{option_to_list}
 use Rattle.std.specs.List.{position_or_len, range_with_len}
 use Rattle.std.proofs.lemmas.List.{length-append, length-replicate}
 use Rattle.std.proofs.lemmas.Option.{slice_get-get_or}
@@ -13,11 +12,12 @@ use Rattle.std.proofs.lemmas.List.Sums.{sum_by-append}
 use Rattle.std.proofs.lemmas.List.Folds.{sum_by-replicate}
 use Rattle.std.proofs.lemmas.Nat.{le-div, mul-le}
 use Rattle.std.proofs.Math.Nat.{min-eq_left}
-use Rattle.std.proofs.lemmas.Bool.{ltb-true, ltb-false}
+use Rattle.std.proofs.lemmas.Bool.{ltb-false}
+use Rattle.std.proofs.lemmas.Bool.Decides.{nat_tests}
 use Rattle.tc_units.specs.declared.units.Addr.{Addr}
 use Rattle.tc_units.specs.declared.spans.SpanRef.{SpanRef}
 use Rattle.tc_units.specs.declared.spans.ClassRow.{ClassRow}
-use Rattle.span_list.specs.Span.{SpanState, address, first_byte, objects_in, all_free, least, taken_from, after_take, free_objects, free_count, taken_count, IsTaken}
+use Rattle.span_list.specs.Span.{SpanState, address, first_byte, objects_in, all_free, least, after_take, free_objects, free_count, taken_count, IsTaken}
 use Rattle.central_free.specs.Runs.{span_after, given_by}
 use Rattle.span_list.proofs.BitFacts.{first_is}
 use Rattle.central_free.specs.Central.{opened, opening, with_span, IsApartFrom, IsBefore, IsOfRow, IsSound, free_in, IsTakenIn, AreDifferent}
@@ -30,9 +30,7 @@ front a b = replicate a false ++ replicate b true
 
 first_of_front : (a b : ℕ) → position_or_len (λ (f : Bool). f) (front a (suc b)) ≡ a
 first_of_front zero b = refl
-first_of_front (suc a) b =
-    let rest = first_of_front a b in
-    omega (arith, rest)
+first_of_front (suc a) b = grind (arith, first_of_front a b)
 
 set-front : (a b : ℕ) → set (front a (suc b)) a false ≡ front (suc a) b
 set-front zero b = refl
@@ -51,15 +49,11 @@ free-all n = sum_by-replicate (λ (b : Bool). cond {A = ℕ} b 1 0) n true ∙ o
 module _ (span : SpanRef) (size : ℕ) where
   -- what is free where k of them are taken, and some are left
   still_free : (k : ℕ) → k < objects_in span.pages size → opened span size k ≡ state_of span size (front k (suc (objects_in span.pages size - (k + 1))))
-  still_free k more =
-      let m = objects_in span.pages size in
-      let a : min k m ≡ k = min-eq_left (omega arith) in let b : m - k ≡ suc (m - (k + 1)) = omega arith in λ i. state_of span size (front (a i) (b i))
+  still_free k more = grind (arith)
 
   -- the next object of a span that is being opened
   least-opened : (k : ℕ) → k < objects_in span.pages size → least (opened span size k) ≡ Some k
-  least-opened k more =
-      let b = objects_in span.pages size - (k + 1) in
-      ap least (still_free k more) ∙ first_is (front k (suc b)) k (first_of_front k b) (omega (arith, length-front k (suc b)))
+  least-opened k more = grind (arith, still_free, first_is, first_of_front, length-front)
 
   opened-more : (k : ℕ) → k < objects_in span.pages size → after_take (opened span size k) (Some k) ≡ opened span size (k + 1)
   opened-more k more =
@@ -68,9 +62,7 @@ module _ (span : SpanRef) (size : ℕ) where
       ap (λ s. after_take s (Some k)) (still_free k more) ∙ ap (state_of span size) (set-front k (m - (k + 1))) ∙ ap (λ i. state_of span size (front i (m - (k + 1)))) (sym c)
 
   opened-none : opened span size 0 ≡ all_free span size
-  opened-none =
-      let m = objects_in span.pages size in
-      let all : m - 0 ≡ m = omega arith in let none : min 0 m ≡ 0 = min-eq_left (omega arith) in λ i. state_of span size (front (none i) (all i))
+  opened-none = grind (arith)
 
   -- several takes from a new span
   opened-run : (k : ℕ) → k ≤ objects_in span.pages size
@@ -78,17 +70,11 @@ module _ (span : SpanRef) (size : ℕ) where
   opened-run zero few = (sym opened-none, refl)
   opened-run (suc k) few =
       let new = all_free span size in
-      let before = opened-run k (omega arith) in let next : k + 1 ≡ suc k = omega arith in let last = least-opened k (omega arith) in (
-        ap (λ s. after_take s (least s)) before.0 ∙ ap (after_take (opened span size k)) last ∙ opened-more k (omega arith) ∙ ap (opened span size) next,
-        ap (λ s. given_by k new ++ option_to_list (taken_from s (least s))) before.0 ∙ ap (λ o. given_by k new ++ option_to_list (taken_from (opened span size k) o)) last
-            ∙ ap (λ xs. xs ++ address new k ∷ []) before.1 ∙ sym (map-range_with_len_more (address new) 0 k k (omega arith)) ∙ ap (λ n. map (address new) (range_with_len 0 n)) next,
-      )
+      grind (arith, opened-run k, least-opened k, opened-more k, map-range_with_len_more (address new) 0 k k)
 
   -- the limit, cut to how many there are
   opened-min : (n : ℕ) → opened span size (min n (objects_in span.pages size)) ≡ opened span size n
-  opened-min n =
-      let m = objects_in span.pages size in
-      let a : min (min n m) m ≡ min n m = min-eq_left (omega arith) in let b : m - min n m ≡ m - n = omega arith in λ i. state_of span size (front (a i) (b i))
+  opened-min n = grind (arith)
 
   pub length-opening : (n : ℕ) → length (opening span size n) ≡ min n (objects_in span.pages size)
   length-opening n = length-map-range_with_len (address (opened span size n)) 0 (min n (objects_in span.pages size))
@@ -96,14 +82,7 @@ module _ (span : SpanRef) (size : ℕ) where
   -- what a new span gives of n
   pub opened-all : (n came : ℕ) (s : SpanState) → s ≡ all_free span size → came ≡ min n (free_count s)
       → (came ≡ length (opening span size n)) × (span_after came s ≡ opened span size n) × (given_by came s ≡ opening span size n)
-  opened-all n came s new count =
-      let m = objects_in span.pages size in
-      let all : came ≡ min n m = count ∙ ap (min n) (ap free_count new ∙ free-all m) in
-      let run = opened-run came (omega arith) in (
-        all ∙ sym (length-opening n),
-        ap (span_after came) new ∙ run.0 ∙ ap (opened span size) all ∙ opened-min n,
-        ap (given_by came) new ∙ run.1 ∙ ap (λ k. map (address (all_free span size)) (range_with_len 0 k)) all,
-      )
+  opened-all n came s new count = grind (arith, free-all, opened-run came, length-opening n, opened-min n)
 
 -- a span of which some are taken is one of its row
 length-opened : (span : SpanRef) (size n : ℕ) → length (opened span size n).free ≡ objects_in span.pages size
@@ -114,23 +93,11 @@ pub some_objects : (pages size : ℕ) → 0 < size → size ≤ pages * 8192 →
 some_objects pages size some fits = le-div 1 (pages * 8192) size some (omega arith)
 
 taken-opened : (span : SpanRef) (size n : ℕ) → 0 < n → 0 < objects_in span.pages size → 0 < taken_count (opened span size n)
-taken-opened span size n some objects =
-    let m = objects_in span.pages size in
-    let a = min n m in
-    let two : taken_count (opened span size n) ≡ count_by not (replicate a false) + count_by not (replicate (m - n) true) =
-    sum_by-append (λ (b : Bool). cond {A = ℕ} (not b) 1 0) (replicate a false) (replicate (m - n) true) in
-    let ones : count_by not (replicate a false) ≡ a * 1 = sum_by-replicate (λ (b : Bool). cond {A = ℕ} (not b) 1 0) a false in
-    omega (arith, two, ones)
+taken-opened span size n some objects = grind (arith, sum_by-append, sum_by-replicate)
 
 pub IsOfRow-opened : (row : ClassRow) (span : SpanRef) (n : ℕ) → 0 < row.size → row.size < 2 ^ 32 → row.size ≤ row.pages * 8192
     → span.first.0 < 2 ^ 32 → row.pages ≤ 255 → span.pages ≡ row.pages → 0 < n → IsOfRow row (opened span row.size n)
-IsOfRow-opened row span n some sizes fits first few pages any =
-    record {
-      cut = record { some = some; sizes = sizes; first = first; pages = omega arith; objects = length-opened span row.size n };
-      size = refl;
-      pages = pages;
-      taken = taken-opened span row.size n any (some_objects span.pages row.size some (omega arith));
-    }
+IsOfRow-opened row span n some sizes fits first few pages any = grind (arith, length-opened, taken-opened, some_objects)
 
 -- the spans stay sound where one is added
 apart-with_span : (s : SpanState) (spans : List SpanState) → 0 < s.span.pages → All (IsApartFrom s.span) spans → AllPairs IsBefore spans
@@ -143,10 +110,7 @@ apart-with_span s (t ∷ ts) some clear apart =
     let behind : All (IsBefore t) ts = λ i d less. apart 0 (suc i) d (omega arith) (omega arith) in
     let others : AllPairs IsBefore ts = λ i j d less within. apart (suc i) (suc j) d (omega arith) (omega arith) in
     (elim (nat_lt a b) as (λ lower. nat_lt a b ≡ lower → AllPairs IsBefore (cond lower (s ∷ t ∷ ts) (t ∷ with_span s ts))) [
-      | true ↦ λ is.
-          (let less : a < b = ltb-true a b is in
-          let before : IsBefore s t = elim here [ inl before ↦ before | inr after ↦ absurd (omega arith) ] in
-          AllPairs-cons IsBefore s (t ∷ ts) (All-cons (IsBefore s) t ts before (All-weaker (IsBefore t) (IsBefore s) (λ u after. omega arith) ts behind)) apart)
+      | true ↦ grind (arith, nat_tests, AllPairs-cons IsBefore s (t ∷ ts), All-cons (IsBefore s) t ts, All-weaker (IsBefore t) (IsBefore s))
       | false ↦ λ is.
           (let more : b ≤ a = ltb-false a b is in
           let before : IsBefore t s = elim here [ inl after ↦ absurd (omega arith) | inr before ↦ before ] in
@@ -157,18 +121,11 @@ apart-with_span s (t ∷ ts) some clear apart =
 pub IsSound-with_span : {row : ClassRow} {spans : List SpanState} → IsSound (record { row = row; spans = spans })
     → (s : SpanState) → IsOfRow row s → All (IsApartFrom s.span) spans → IsSound (record { row = row; spans = with_span s spans })
 IsSound-with_span {row} {spans} sound s of_row clear =
-    record {
-      some = sound.some;
-      fits = sound.fits;
-      of_row = All-with_item (λ t. first_byte t.span) (IsOfRow row) s spans of_row sound.of_row;
-      apart = apart-with_span s spans (omega (arith, of_row.pages, sound.some, sound.fits)) clear sound.apart;
-    }
+    grind (arith, All-with_item (λ t. first_byte t.span) (IsOfRow row) s spans of_row sound.of_row, apart-with_span s spans)
 
 -- how the free objects change
 pub count-with_span : (test : Addr → Bool) (spans : List SpanState) (s : SpanState) → count_by test (free_in (with_span s spans)) ≡ count_by test (free_in spans) + count_by test (free_objects s)
-count-with_span test spans s =
-    let now = count-flat_map test free_objects (with_span s spans) in let was = count-flat_map test free_objects spans in
-    omega (arith, now, was, sum_by-with_item (λ (t : SpanState). first_byte t.span) (λ u. count_by test (free_objects u)) s spans)
+count-with_span test spans s = grind (arith, count-flat_map, sum_by-with_item)
 
 -- what came from the new span can be put back
 get_or-front : (a b i : ℕ) (d : Bool) → i < a → get_or (front a b) i d ≡ false
@@ -188,19 +145,13 @@ module _ (span : SpanRef) (size n : ℕ) where
 
   -- the object at a place
   opening_at : (i : ℕ) (d : Addr) → i < length (opening span size n) → (i < min n (objects_in span.pages size)) × (get_or (opening span size n) i d ≡ address (opened span size n) i)
-  opening_at i d within =
-      let less : i < min n (objects_in span.pages size) = omega (arith, length-opening span size n) in
-      (less, get_or-map-range_with_len (address (opened span size n)) 0 (min n (objects_in span.pages size)) i i d less (omega arith))
+  opening_at i d within = grind (arith, length-opening, get_or-map-range_with_len)
 
   pub opening-is_taken : All (IsTaken (opened span size n)) (opening span size n)
   opening-is_taken = λ i d within. let o = opening_at i d within in subst (IsTaken (opened span size n)) (sym o.1) (opening-IsTaken i o.0)
 
   pub opening-different : 0 < size → AreDifferent (opening span size n)
-  opening-different some = λ i j d less within same.
-      let first = opening_at i d (omega arith) in let second = opening_at j d within in
-      let above : (i + 1) * size ≤ j * size = mul-le (i + 1) size j size (omega arith) (omega arith) in
-      let one : (i + 1) * size ≡ i * size + size = omega arith in
-      let at : first_byte span + i * size ≡ first_byte span + j * size = ap (λ a. a.0) (sym first.1 ∙ same ∙ second.1) in omega arith
+  opening-different some = grind (arith, opening_at, mul-le)
 
 pub opening-taken : (spans : List SpanState) (span : SpanRef) (size n : ℕ) → All (IsTakenIn (with_span (opened span size n) spans)) (opening span size n)
 opening-taken spans span size n = λ i d within.

@@ -1,26 +1,21 @@
 -- The span that serves next: the choice by looking at every span, and the first of the greatest weights, are one.
 use Rattle.std.proofs.Common.{◌≡◌, ℕ, zero, suc, ◌<◌, ◌≤◌, ◌⊎◌, true, false, ◌==◌, List, [], ◌∷◌}
-use Rattle.std.proofs.Common.{length, get_or, set, map, MatchOption, Option, Some, None, refl, sym, ◌∙◌, ap, inl, inr, arith}
+use Rattle.std.proofs.Common.{length, get_or, set, map, MatchOption, Option, Some, None, refl, sym, ◌∙◌, ap, arith}
 use Rattle.std.specs.Prelude.{AllPairs, All}
 use Rattle.std.proofs.lemmas.List.{get_or-map}
 use Rattle.std.proofs.lemmas.List.Sums.{position_or_len_is}
 use Rattle.std.proofs.lemmas.Option.{none-some, same_Some}
-use Rattle.std.proofs.lemmas.Bool.{cases_Bool, cond-true, cond-false, ltb-true, eq-eqb, ne_eqb}
+use Rattle.std.proofs.lemmas.Bool.{cond-true, cond-false, eq-eqb, ne_eqb}
 use Rattle.std.proofs.lemmas.Bool.Decides.{nat_tests}
 use Rattle.tc_units.specs.declared.units.Addr.{Addr}
-use Rattle.span_list.specs.Span.{SpanState, free_count, taken_count, least, address, taken_from, after_take}
+use Rattle.span_list.specs.Span.{SpanState, free_count, taken_count, least, taken_from, after_take}
 use Rattle.span_list.proofs.SpanFacts.{count_none}
-use Rattle.central_free.specs.Central.{has_free, goes_before, preferred, chosen, place_at, taken_one, taken_one_from, IsBefore}
+use Rattle.central_free.specs.Central.{has_free, goes_before, preferred, chosen, place_at, taken_one, IsBefore}
 use Rattle.central_free.specs.Slots.{weight}
 
 -- the preferred one is the span or the best of the others
 preferred_cases : (s : SpanState) (o : Option SpanState) (c : SpanState) → preferred s o ≡ c → (s ≡ c) ⊎ (o ≡ Some c)
-preferred_cases s None c e = inl e
-preferred_cases s (Some t) c e =
-    elim (cases_Bool (goes_before s t)) [
-      | inl before ↦ inl (sym (cond-true (goes_before s t) s t before) ∙ e)
-      | inr behind ↦ inr (ap (λ v. Some v) (sym (cond-false (goes_before s t) s t behind) ∙ e))
-    ]
+preferred_cases s o c e = grind (arith)
 
 preferred_first : (s : SpanState) (o : Option SpanState) → ((c : SpanState) → o ≡ Some c → goes_before s c ≡ true) → preferred s o ≡ s
 preferred_first s None all = refl
@@ -46,15 +41,7 @@ later_among s others c m = record { place = suc m.place; within = omega (arith, 
 
 pub chosen_among : (spans : List SpanState) (c : SpanState) → chosen spans ≡ Some c → IsAmong spans c
 chosen_among [] c e = absurd (none-some c e)
-chosen_among (s ∷ others) c e =
-    elim (cases_Bool (has_free s)) [
-      | inl free ↦
-          elim (preferred_cases s (chosen others) c (same_Some (preferred s (chosen others)) c (sym (chosen_free s others free) ∙ e))) [
-            | inl here ↦ record { place = 0; within = omega arith; at = λ d. here; free = ap has_free (sym here) ∙ free }
-            | inr later ↦ later_among s others c (chosen_among others c later)
-          ]
-      | inr full ↦ later_among s others c (chosen_among others c (sym (chosen_full s others full) ∙ e))
-    ]
+chosen_among (s ∷ others) c e = grind (arith, nat_tests, chosen_among others c, preferred_cases, same_Some, chosen_free, later_among, chosen_full)
 
 -- a place whose span has a free object and goes before every other such span
 record GoesFirst (spans : List SpanState) (k : ℕ) : Type 0 where
@@ -75,11 +62,7 @@ chosen_is (s ∷ others) (suc k) d within first =
       early = λ j e less. first.early (suc j) e (omega arith);
       late = λ j e less inside. first.late (suc j) e (omega arith) (omega arith);
     }) in
-    elim (cases_Bool (has_free s)) [
-      | inl free ↦
-          chosen_free s others free ∙ ap (λ o. Some (preferred s o)) rest ∙ ap (λ v. Some v) (cond-false (goes_before s t) s t (first.early 0 d (omega arith) free))
-      | inr full ↦ chosen_full s others full ∙ rest
-    ]
+    grind (arith, nat_tests, chosen_free s others, first.early 0 d, chosen_full s others)
 
 pub chosen_none : (spans : List SpanState) → ((j : ℕ) (d : SpanState) → j < length spans → has_free (get_or spans j d) ≡ false) → chosen spans ≡ None
 chosen_none [] full = refl
@@ -88,11 +71,7 @@ chosen_none (s ∷ others) full = chosen_full s others (full 0 s (omega arith)) 
 pub chosen_some : (spans : List SpanState) (k : ℕ) (d : SpanState) → k < length spans → has_free (get_or spans k d) ≡ true → chosen spans ≡ None → ⊥
 chosen_some [] k d within free none = omega arith
 chosen_some (s ∷ others) zero d within free none = none-some (preferred s (chosen others)) (sym none ∙ chosen_free s others free)
-chosen_some (s ∷ others) (suc k) d within free none =
-    elim (cases_Bool (has_free s)) [
-      | inl here ↦ none-some (preferred s (chosen others)) (sym none ∙ chosen_free s others here)
-      | inr full ↦ chosen_some others k d (omega arith) free (sym (chosen_full s others full) ∙ none)
-    ]
+chosen_some (s ∷ others) (suc k) d within free none = grind (arith, nat_tests, chosen_some others k d, none-some, chosen_free, chosen_full)
 
 -- a place has the first of the greatest weights
 abbrev pub IsBestPlace : List ℕ → ℕ → Type 0
@@ -122,17 +101,7 @@ module _ (spans : List SpanState) (k : ℕ) (within : k < length spans) (apart :
   GoesFirst-from_best : IsBestPlace (map weight spans) k → GoesFirst spans k
   GoesFirst-from_best best =
       let read : (j : ℕ) (d : SpanState) → j < length spans → get_or (map weight spans) j 0 ≡ weight (get_or spans j d) = λ j d less. get_or-map weight spans j d 0 less in
-      let free : (d : SpanState) → has_free (get_or spans k d) ≡ true = λ d. has_free-weight (get_or spans k d) (omega (arith, best.0, read k d within)) in
-      let mine : (d : SpanState) → get_or (map weight spans) k 0 ≡ taken_count (get_or spans k d) = λ d. read k d within ∙ weight-free (get_or spans k d) (ltb-true 0 _ (free d)) in
-      let has_one : (j : ℕ) (d : SpanState) → j < length spans → has_free (get_or spans j d) ≡ true → get_or (map weight spans) j 0 ≡ taken_count (get_or spans j d) =
-      λ j d less open_too. read j d less ∙ weight-free (get_or spans j d) (ltb-true 0 _ open_too) in
-      record {
-        free = free;
-        early = λ j d less open_too. behind_by_taken (get_or spans j d) (get_or spans k d) (omega (arith, best.2 j less, has_one j d (omega arith) open_too, mine d));
-        late = λ j d more inside open_too.
-            let before : IsBefore (get_or spans k d) (get_or spans j d) = apart k j d more inside in
-            before_by_taken (get_or spans k d) (get_or spans j d) (omega (arith, best.1 j, has_one j d inside open_too, mine d)) (omega (arith, before));
-      }
+      grind (arith, nat_tests, has_free-weight, read k, weight-free, behind_by_taken, best.2, before_by_taken, best.1)
 
   -- where a span stands, by its first page
   pub place_at-is : (d : SpanState) → All (λ s. 0 < s.span.pages) spans → place_at (get_or spans k d).span.first.0 spans ≡ k
@@ -147,17 +116,10 @@ module _ (spans : List SpanState) (k : ℕ) (within : k < length spans) (apart :
 took_one : (A R : Type 0) → R → (spans : List SpanState) (k : ℕ) (s t : SpanState) (result : Option Addr) (at : Option ℕ)
     → least s ≡ at → 0 < free_count s → result ≡ taken_from s at → t ≡ after_take s at → chosen spans ≡ Some s → place_at s.span.first.0 spans ≡ k
     → MatchOption result A (λ a. (taken_one spans ≡ Some (a, set spans k t)) × R)
-took_one A R also spans k s t result None is free gives after pick place = absurd (omega (arith, count_none s.free is))
-took_one A R also spans k s t result (Some i) is free gives after pick place =
-    let one : taken_one spans ≡ taken_one_from spans (Some s) = ap (taken_one_from spans) pick in
-    let what : taken_one_from spans (Some s) ≡ Some (address s i, set spans k t) = rw (place, is, after) refl in
-    rw gives (one ∙ what, also)
+took_one A R also spans k s t result at is free gives after pick place = grind (arith, count_none)
 
 pub taken_one-is : (A R : Type 0) → R → (spans : List SpanState) (k : ℕ) (s t : SpanState) (result : Option Addr) → AllPairs IsBefore spans → All (λ u. 0 < u.span.pages) spans
     → IsBestPlace (map weight spans) k → k < length spans → s ≡ get_or spans k s → result ≡ taken_from s (least s) → t ≡ after_take s (least s)
     → MatchOption result A (λ a. (taken_one spans ≡ Some (a, set spans k t)) × R)
 taken_one-is A R also spans k s t result apart pages best within read gives after =
-    let first = GoesFirst-from_best spans k within apart best in
-    let free : 0 < free_count s = ltb-true 0 (free_count s) (ap has_free read ∙ first.free s) in
-    let place : place_at s.span.first.0 spans ≡ k = ap (λ u. place_at u.span.first.0 spans) read ∙ place_at-is spans k within apart s pages in
-    took_one A R also spans k s t result (least s) refl free gives after (chosen_is spans k s within first ∙ ap (λ v. Some v) (sym read)) place
+    grind (arith, nat_tests, GoesFirst-from_best, place_at-is, took_one, chosen_is)

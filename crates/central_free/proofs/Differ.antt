@@ -1,8 +1,8 @@
 -- Lists of objects that are all different, in parts.
-use Rattle.std.proofs.Common.{◌≡◌, ◌≢◌, ℕ, ◌+◌, ◌-◌, ◌<◌, ◌≤◌, List, ◌++◌, length, get_or, sym, ◌∙◌, ap, inl, inr, arith}
+use Rattle.std.proofs.Common.{◌≡◌, ◌≢◌, ℕ, ◌+◌, ◌-◌, ◌<◌, ◌≤◌, List, ◌++◌, length, get_or, sym, ◌∙◌, ap, arith}
 use Rattle.std.specs.Prelude.{All}
 use Rattle.std.proofs.lemmas.List.{length-append, get_or_append_left, get_or-append-add, get_or_default}
-use Rattle.std.proofs.lemmas.Bool.{cases_lt}
+use Rattle.std.proofs.lemmas.Bool.Decides.{nat_tests}
 use Rattle.tc_units.specs.declared.units.Addr.{Addr}
 use Rattle.central_free.specs.Central.{AreDifferent}
 
@@ -19,16 +19,7 @@ right xs ys k d above = ap (λ m. get_or (xs ++ ys) m d) (omega arith) ∙ get_o
 
 -- two parts
 pub AreDifferent-append : (xs ys : List Addr) → AreDifferent xs → AreDifferent ys → AreApart xs ys → AreDifferent (xs ++ ys)
-AreDifferent-append xs ys first second apart i j d less within same =
-    let long : length (xs ++ ys) ≡ length xs + length ys = length-append xs ys in
-    elim (cases_lt j (length xs)) [
-      | inl both ↦ first i j d less both (sym (left xs ys i d (omega arith)) ∙ same ∙ left xs ys j d both)
-      | inr above ↦
-          elim (cases_lt i (length xs)) [
-            | inl below ↦ apart i d below (j - length xs) d (omega arith) (sym (left xs ys i d below) ∙ same ∙ right xs ys j d above)
-            | inr above_too ↦ second (i - length xs) (j - length xs) d (omega arith) (omega arith) (sym (right xs ys i d above_too) ∙ same ∙ right xs ys j d above)
-          ]
-    ]
+AreDifferent-append xs ys first second apart i j d less within same = grind (arith, nat_tests, length-append, left, right)
 
 -- and what holds of them
 pub record IsTwoParts (xs ys : List Addr) : Type 0 where

@@ -27,25 +27,12 @@ pub record IsPutting (list : List Addr) (start now : Central) (before freed : Co
       ≡ count_by test (free_in start.spans) + count_by test (flat_map (objects_of start.row.size) before.items) + count_by test list
 
 pub IsPutting-none : (list : List Addr) (start : Central) (before : Contents SpanRef) → IsSound start → All (IsTakenIn start.spans) list → IsPutting list start start before before 0
-IsPutting-none list start before sound taken =
-    record {
-      row = refl;
-      spans = refl;
-      items = refl;
-      room = refl;
-      few = omega arith;
-      sound = sound;
-      taken = λ k d from within. taken k d within;
-      kept = λ a there differ. there;
-      moves = λ test. refl;
-    }
+IsPutting-none list start before sound taken = grind (arith, taken)
 
 -- how often something is among the objects of spans, and of more of them
 freed_counts : (test : Addr → Bool) (size : ℕ) (old new more : List SpanRef) → more ≡ old ++ new
     → count_by test (flat_map (objects_of size) more) ≡ count_by test (flat_map (objects_of size) old) + count_by test (flat_map (objects_of size) new)
-freed_counts test size old new more is =
-    ap (λ xs. count_by test (flat_map (objects_of size) xs)) is ∙ ap (count_by test) (flat_map-append (objects_of size) old new)
-    ∙ sum_by-append (λ x. cond {A = ℕ} (test x) 1 0) (flat_map (objects_of size) old) (flat_map (objects_of size) new)
+freed_counts test size old new more is = grind (arith, flat_map-append, sum_by-append)
 
 -- one more object, which frees its span or doesn't
 pub IsPutting-more : {list : List Addr} {start now : Central} {before freed : Contents SpanRef} {done : ℕ}
@@ -90,13 +77,4 @@ central_of row spans = record { row = row; spans = spans }
 
 pub IsPut-end : {list : List Addr} {start now : Central} {before freed : Contents SpanRef} {done : ℕ}
     → IsPutting list start now before freed done → length list ≤ done → IsPut list start now before freed
-IsPut-end {list} {start} {now} {before} {freed} {done} so_far past =
-    let none : drop done list ≡ [] = drop_all done list past in let gone = (put_all list start.spans).freed in
-    let last : put_all (drop done list) now.spans ≡ record { spans = now.spans; freed = [] } = ap (λ xs. put_all xs now.spans) none in
-    let items : freed.items ≡ before.items ++ gone = sym (append-nil freed.items) ∙ ap (λ p. freed.items ++ p.freed) (sym last) ∙ so_far.items in
-    record {
-      spans = ap (λ r. central_of r now.spans) so_far.row ∙ ap (central_of start.row) (ap (λ p. p.spans) (sym last) ∙ so_far.spans);
-      items = items;
-      spare = omega (arith, so_far.room, ap length items, length-append {A = SpanRef} before.items gone);
-      moves = λ test. omega (arith, freed_counts test start.row.size before.items gone freed.items items, ap (count_by test) none, so_far.moves test);
-    }
+IsPut-end {list} {start} {now} {before} {freed} {done} so_far past = grind (arith, drop_all, append-nil, length-append, freed_counts)

@@ -1,5 +1,5 @@
 -- An object that is put back: the span that holds it, and what becomes of the spans.
-use Rattle.std.proofs.Common.{◌≡◌, ◌≢◌, ℕ, suc, ◌+◌, ◌-◌, ◌*◌, ◌/◌, ◌<◌, ◌≤◌, Bool, true, false, not, ◌==◌, nat_lt, nat_le, List, []}
+use Rattle.std.proofs.Common.{◌≡◌, ◌≢◌, ℕ, suc, ◌+◌, ◌-◌, ◌*◌, ◌<◌, ◌≤◌, Bool, true, false, not, nat_lt, nat_le, List, []}
 use Rattle.std.proofs.Common.{◌∷◌, ◌++◌, length, get_or, set, take, drop, replicate, count_by, Option, Some, cond, refl, sym, ◌∙◌, ap, subst, inl, inr, arith}
 use Rattle.std.specs.Prelude.{All, Any}
 use Rattle.std.specs.List.{flat_map, position_or_len, remove}
@@ -11,7 +11,8 @@ use Rattle.std.proofs.lemmas.List.Sums.{sum_by-cons, sum_by-remove, position_or_
 use Rattle.std.proofs.lemmas.Option.{same_Some, slice_get-get_or, slice_get_within}
 use Rattle.std.proofs.lemmas.Nat.{mul-le}
 use Rattle.std.proofs.Math.Nat.{div-mul-le_self}
-use Rattle.std.proofs.lemmas.Bool.{cases_lt, cases_eq, cases_order, cond-true, cond-false, and_from, and_right, lt-ltb, le-ltb, le-leb, eq-eqb, ne_eqb}
+use Rattle.std.proofs.lemmas.Bool.{cases_lt, cases_eq, cases_order, and_from, and_right, lt-ltb, le-ltb, le-leb}
+use Rattle.std.proofs.lemmas.Bool.Decides.{nat_tests}
 use Rattle.tc_units.specs.declared.units.Addr.{Addr}
 use Rattle.tc_units.specs.declared.spans.SpanRef.{SpanRef}
 use Rattle.tc_units.specs.declared.spans.ClassRow.{ClassRow}
@@ -29,14 +30,7 @@ pub record IsInside (s : SpanState) (a : Addr) : Type 0 where
   pub high : a.0 < first_byte s.span + s.span.pages * 8192
 
 IsInside-taken : (s : SpanState) (a : Addr) → IsCut s → IsTaken s a → IsInside s a
-IsInside-taken s a cut taken =
-    let i = taken.index in
-    let within = slice_get_within s.free i false taken.taken in
-    let all : (i + 1) * s.size ≤ s.span.pages * 8192 / s.size * s.size = mul-le (i + 1) s.size (s.span.pages * 8192 / s.size) s.size (omega (arith, cut.objects)) (omega arith) in
-    let whole = div-mul-le_self (s.span.pages * 8192) s.size in
-    let one : (i + 1) * s.size ≡ i * s.size + s.size = omega arith in
-    let at : a.0 ≡ first_byte s.span + i * s.size = ap (λ t. t.0) taken.at in
-    record { low = omega arith; high = omega (arith, cut.some) }
+IsInside-taken s a cut taken = grind (arith, slice_get_within, mul-le, div-mul-le_self)
 
 -- where the span of a taken object stands
 pub record IsPlace (spans : List SpanState) (a : Addr) (k : ℕ) : Type 0 where
@@ -92,17 +86,7 @@ module _ {row : ClassRow} {spans : List SpanState} (sound : IsSound (record { ro
       → t.span ≡ s.span → IsCut t → IsTaken t a → (IsTaken s a → ⊥) → IsTakenIn spans a → ⊥
   fresh-set j s t a within here same cut taken fresh there =
       let (i, x, less, at, taken_x) = there in
-      let in_t = IsInside-taken t a cut taken in let in_x = inside a i x less at taken_x in
-      let first_x = ap (λ u. u.span.first.0) at in let pages_x = ap (λ u. u.span.pages) at in
-      let span_t = ap (λ u. u.span) (here x) ∙ sym same in let first_t = ap (λ u. u.first.0) span_t in let pages_t = ap (λ u. u.pages) span_t in
-      elim (cases_order i j) [
-        | inl equal ↦ fresh (rw (sym at ∙ ap (λ k. get_or spans k x) equal ∙ here x) at taken_x)
-        | inr other ↦
-            elim other [
-              | inl lower ↦ (let before : IsBefore (get_or spans i x) (get_or spans j x) = sound.apart i j x lower within in omega (arith, before, in_x.high, in_t.low, first_x, pages_x, first_t))
-              | inr more ↦ (let before : IsBefore (get_or spans j x) (get_or spans i x) = sound.apart j i x more less in omega (arith, before, in_t.high, in_x.low, first_x, first_t, pages_t))
-            ]
-      ]
+      grind (arith, IsInside-taken t a cut taken, inside a i x less, here x, cases_order i j, fresh)
 
   -- what is taken in a span that has no page of the others is taken in none of them
   pub fresh-apart : (s : SpanState) (a : Addr) → IsCut s → IsTaken s a → All (IsApartFrom s.span) spans → IsTakenIn spans a → ⊥
@@ -119,16 +103,10 @@ taken-set spans j t a within taken = (j, t, omega (arith, length-set spans j t),
 module _ (spans : List SpanState) (k : ℕ) (s t : SpanState) (b : Addr) (within : k < length spans) (read : s ≡ get_or spans k s)
     (kept : IsTaken s b → IsTaken t b) (there : IsTakenIn spans b) where
   still : there.0 ≡ k → IsTaken t b
-  still here =
-      let same : there.1 ≡ s = sym there.3 ∙ ap (λ j. get_or spans j there.1) here ∙ get_or_default spans k there.1 s within ∙ sym read in
-      kept (rw same at there.4)
+  still here = grind (arith, get_or_default)
 
   pub kept-set : IsTakenIn (set spans k t) b
-  kept-set =
-      elim (cases_eq there.0 k) [
-        | inl here ↦ taken-set spans k t b within (still here)
-        | inr other ↦ (there.0, there.1, omega (arith, there.2, length-set spans k t), get_or-set_other spans k there.0 t there.1 other ∙ there.3, there.4)
-      ]
+  kept-set = grind (arith, nat_tests, taken-set spans k t b within, still, length-set spans k t, get_or-set_other spans k there.0 t there.1)
 
   kept-remove : taken_count t ≡ 0 → IsTakenIn (remove spans k) b
   kept-remove none =
@@ -138,9 +116,7 @@ module _ (spans : List SpanState) (k : ℕ) (s t : SpanState) (b : Addr) (within
         | inr other ↦
             elim (cases_lt i k) [
               | inl below ↦ (i, x, omega arith, get_or-remove_below spans k x i below within ∙ at, taken)
-              | inr above ↦
-                  (let place : i - 1 + 1 ≡ i = omega arith in
-                  (i - 1, x, omega arith, get_or-remove_above spans k x (i - 1) (omega arith) within ∙ ap (λ j. get_or spans j x) place ∙ at, taken))
+              | inr above ↦ grind (arith, get_or-remove_above spans k x (i - 1))
             ]
       ]
 
@@ -172,10 +148,7 @@ module _ {slots : List (Option SpanState)} {entries : List (ℕ × ℕ)} {ts : L
   pub some_begun : (now : List SpanState) (a : Addr) → spans_of slots entries ≡ now → IsTakenIn now a → Any (λ (e : ℕ × ℕ). e.0 ≤ a.0) entries
   some_begun now a same there =
       let t : IsTakenIn (spans_of slots entries) a = rw same there in let (i, x, less, at, taken) = t in
-      let long : length (spans_of slots entries) ≡ length entries = length-map entries (λ (x : ℕ × ℕ). span_at slots x.1) in
-      let e = get_or entries i nobody in let in_pages = inside sound a i x less at taken in
-      let key : e.0 ≡ first_byte x.span = key_of_place kept i nobody x (omega arith) ∙ ap (λ s. first_byte s.span) at in
-      (i, e, omega arith, get_or_default entries i e nobody (omega arith), omega (arith, in_pages.low))
+      grind (arith, length-map entries (λ (x : ℕ × ℕ). span_at slots x.1), nobody, inside sound a i, key_of_place kept i nobody, get_or_default entries i)
 
   -- and the last one that does holds it
   pub slot_found : (now : List SpanState) (a : Addr) (slot : ℕ) (s : SpanState) → spans_of slots entries ≡ now
@@ -190,17 +163,7 @@ module _ {slots : List (Option SpanState)} {entries : List (ℕ × ℕ)} {ts : L
       let is : n ≡ i = (
       elim (cases_order n i) [
         | inl equal ↦ equal
-        | inr other ↦
-            elim other [
-              | inl lower ↦
-                  (let before : IsBefore (get_or spans n x) (get_or spans i x) = sound.apart n i x lower (omega arith) in
-                  absurd (omega (arith, before, key i e within, first_e, low, in_pages.high, first, pages)))
-              | inr more ↦
-                  (let before : IsBefore (get_or spans i x) (get_or spans n x) = sound.apart i n x more less in
-                  let some = has_pages sound i x (omega arith) in
-                  let there_key = key n e (omega arith) in let below = greatest n e (omega arith) (omega (arith, there_key, first, in_pages.low)) in
-                  absurd (omega (arith, before, some, there_key, below, key i e within, first_e)))
-            ]
+        | inr other ↦ grind (arith, key i e within, has_pages sound i x, key n e)
       ]) in
       let place : IsPlace spans a i = subst (IsPlace spans a) is (IsPlace-taken sound a t) in
       let here = stands_at kept sound slot i e within (ap (λ (e : ℕ × ℕ). e.1) is_e ∙ slot_is) in
@@ -221,15 +184,10 @@ module _ {spans : List SpanState} {a : Addr} {k : ℕ} (place : IsPlace spans a 
   put_at_place = rw (place.held, slice_get-get_or spans k s place.within, ← read) refl
 
   pub put_stays : (taken_count t ≡ 0 → ⊥) → put_one a spans ≡ record { spans = set spans k t; freed = [] }
-  put_stays some =
-      put_at_place ∙ cond-false (taken_count (after_put s a) == 0) (record { spans = remove spans k; freed = s.span ∷ [] }) (record { spans = set spans k (after_put s a); freed = [] })
-      (ne_eqb (taken_count (after_put s a)) 0 (λ none. some (ap taken_count after ∙ none)))
-      ∙ rw after refl
+  put_stays some = grind (arith, nat_tests, put_at_place)
 
   pub put_leaves : taken_count t ≡ 0 → put_one a spans ≡ record { spans = remove spans k; freed = s.span ∷ [] }
-  put_leaves none =
-      put_at_place ∙ cond-true (taken_count (after_put s a) == 0) (record { spans = remove spans k; freed = s.span ∷ [] }) (record { spans = set spans k (after_put s a); freed = [] })
-      (eq-eqb (taken_count (after_put s a)) 0 (sym (ap taken_count after) ∙ none))
+  put_leaves none = grind (arith, nat_tests, put_at_place)
 
   module _ {row : ClassRow} (sound : IsSound (record { row = row; spans = spans })) (kept : (b : Addr) → IsTaken s b → b ≢ a → IsTaken t b)
       (moves : (test : Addr → Bool) → count_by test (free_objects t) ≡ count_by test (free_objects s) + count_by test (a ∷ [])) where
@@ -251,13 +209,7 @@ module _ {spans : List SpanState} {a : Addr} {k : ℕ} (place : IsPlace spans a 
     -- its objects are free where the span leaves
     freed_counts : (test : Addr → Bool) → taken_count t ≡ 0
         → count_by test (free_in (remove spans k)) + count_by test (flat_map (objects_of row.size) (s.span ∷ [])) ≡ count_by test (free_in spans) + count_by test (a ∷ [])
-    freed_counts test none =
-        let of_row = row_of in let cut : IsCut t = subst IsCut (sym after) (IsCut-with_object s _ true of_row.cut) in
-        let all : free_objects t ≡ objects_of row.size s.span = free_objects-all t cut none ∙ rw (after, of_row.size) refl in
-        let gone : count_by test (flat_map (objects_of row.size) (s.span ∷ [])) ≡ count_by test (free_objects t) = ap (count_by test) (append-nil (objects_of row.size s.span) ∙ sym all) in
-        let old = ap (λ u. count_by test (free_objects u)) read in
-        let shorter = sum_by-remove (λ u. count_by test (free_objects u)) spans k s place.within in
-        omega (arith, count-flat_map test free_objects (remove spans k), count-flat_map test free_objects spans, shorter, old, gone, moves test)
+    freed_counts test none = grind (arith, row_of, IsCut-with_object, free_objects-all, append-nil, sum_by-remove, count-flat_map)
 
     pub IsPutOne-leaves : (left : List SpanState) (gone : SpanRef) → taken_count t ≡ 0 → left ≡ remove (set spans k t) k → gone ≡ s.span → IsPutOne row spans a left (gone ∷ [])
     IsPutOne-leaves left gone none left_is gone_is =

@@ -1,9 +1,8 @@
 -- A tournament: the root has the best standing, and a write changes only what stands above it.
-use Rattle.std.proofs.Common.{◌≡◌, ℕ, zero, suc, ◌+◌, ◌-◌, ◌*◌, ◌/◌, ◌<◌, ◌≤◌, ◌⊎◌, true, false}
-use Rattle.std.proofs.Common.{List, length, get_or, Some, None, refl, sym, ◌∙◌, ap, subst, inl, inr, arith}
+use Rattle.std.proofs.Common.{◌≡◌, ℕ, zero, suc, ◌+◌, ◌-◌, ◌*◌, ◌/◌, ◌<◌, ◌≤◌, ◌⊎◌, true, false, List, length, get_or, Some, None, refl, ap, inl, inr, arith}
 use Rattle.std.proofs.lemmas.List.{get_or_past}
 use Rattle.std.proofs.lemmas.List.FromFn.{length-map-range_with_len, get_or-map-range_with_len}
-use Rattle.std.proofs.lemmas.Bool.{cases_lt, cases_eq, cases_Bool}
+use Rattle.std.proofs.lemmas.Bool.{cases_lt, cases_eq}
 use Rattle.std.proofs.lemmas.Bool.Decides.{nat_tests}
 use Rattle.central_free.specs.declared.ranking.Rank.{Rank}
 use Rattle.central_free.specs.declared.ranking.Standing.{Standing}
@@ -17,11 +16,7 @@ Beats-self : (a : Rank) → Beats a a
 Beats-self a = inr (refl, omega arith)
 
 Beats-along : (a b c : Rank) → Beats a b → Beats b c → Beats a c
-Beats-along a b c first second =
-    elim first [
-      | inl more ↦ elim second [ inl and_more ↦ inl (omega arith) | inr same ↦ inl (omega (arith, same.0)) ]
-      | inr same ↦ elim second [ inl more ↦ inl (omega (arith, same.0)) | inr and_same ↦ inr (same.0 ∙ and_same.0, omega (arith, same.1, and_same.1)) ]
-    ]
+Beats-along a b c first second = grind (arith)
 
 -- where the second goes behind it is as good, and else the first is
 good_behind : (a b : Standing) → goes_behind a b ≡ true → IsAsGood b a
@@ -36,13 +31,7 @@ record Best (a b c : Rank) : Type 0 where
   one : (c ≡ a) ⊎ (c ≡ b)
 
 better-best : (a b : Rank) → Best a b (better a b)
-better-best a b =
-    elim (cases_Bool (goes_behind a.standing b.standing)) [
-      | inl behind ↦
-          rw behind (record { first = good_behind a.standing b.standing behind; second = Beats-self b; one = inr refl })
-      | inr front ↦
-          rw front (record { first = Beats-self a; second = good_front a.standing b.standing front; one = inl refl })
-    ]
+better-best a b = grind (arith, nat_tests, good_behind, Beats-self, good_front)
 
 -- the root is as good as each node
 root_beats : (slots : ℕ) (nodes : List Rank) → IsJoined slots nodes → (fuel i : ℕ) → 0 < i → i < 2 * slots → i ≤ fuel → Beats (node_at nodes 1) (node_at nodes i)
@@ -71,10 +60,13 @@ node_leaf slots nodes joined zero i some within enough = absurd (omega arith)
 node_leaf slots nodes joined (suc fuel) i some within enough =
     elim (cases_lt i slots) [
       | inl inner ↦
-          elim (better-best (node_at nodes (2 * i)) (node_at nodes (2 * i + 1))).one [
-            | inl left ↦ rw (joined i some inner, left) (node_leaf slots nodes joined fuel (2 * i) (omega arith) (omega arith) (omega arith))
-            | inr right ↦ rw (joined i some inner, right) (node_leaf slots nodes joined fuel (2 * i + 1) (omega arith) (omega arith) (omega arith))
-          ]
+          grind (
+            arith,
+            node_leaf slots nodes joined fuel (2 * i),
+            node_leaf slots nodes joined fuel (2 * i + 1),
+            better-best (node_at nodes (2 * i)) (node_at nodes (2 * i + 1)),
+            joined i some inner,
+          )
       | inr leaf ↦ record { at = i - slots; within = omega arith; is = ap (node_at nodes) (omega arith) }
     ]
 
@@ -97,26 +89,19 @@ past_end slots nodes k past =
 pub best_none : (slots : ℕ) (nodes : List Rank) → IsJoined slots nodes → (0 < slots → (node_at nodes 1).standing.weight ≡ 0) → IsBestSlot (standings_of slots nodes) None
 best_none slots nodes joined no_weight = λ k.
     (elim (cases_lt k slots) [
-      | inl less ↦
-          elim (root_best slots nodes (omega arith) joined k less) [
-            | inl more ↦ absurd (omega (arith, no_weight (omega arith)))
-            | inr same ↦ sym same.0 ∙ no_weight (omega arith)
-          ]
+      | inl less ↦ grind (arith, root_best slots nodes, no_weight)
       | inr past ↦ past_end slots nodes k past
     ])
 
 pub best_some : (slots : ℕ) (nodes : List Rank) → HasLeaves slots nodes → IsJoined slots nodes → 0 < slots
     → 0 < (node_at nodes 1).standing.weight → IsBestSlot (standings_of slots nodes) (Some (node_at nodes 1).slot)
 best_some slots nodes leaves joined some heavy =
-    let root = node_at nodes 1 in
-    let leaf : IsLeaf slots nodes root = node_leaf slots nodes joined (2 * slots) 1 (omega arith) (omega arith) (omega arith) in
-    let slot : root.slot ≡ leaf.at = ap (λ r. r.slot) leaf.is ∙ leaves leaf.at leaf.within in
-    let here : get_or (standings_of slots nodes) root.slot no_standing ≡ root.standing = rw slot (get_or-standings_of slots nodes leaf.at leaf.within) ∙ ap (λ r. r.standing) (sym leaf.is) in
-    let P : Standing → Type 0 = λ t. (0 < t.weight) × ((k : ℕ) → IsAsGood t (get_or (standings_of slots nodes) k no_standing)) in
-    subst P (sym here) (
-      heavy,
-      λ k. elim (cases_lt k slots) [
-        | inl less ↦ root_best slots nodes some joined k less
-        | inr past ↦ inl (omega (arith, past_end slots nodes k past))
-      ],
+    grind (
+      arith,
+      nat_tests,
+      node_leaf slots nodes joined (2 * slots) 1,
+      leaves,
+      get_or-standings_of slots nodes,
+      root_best slots nodes some joined,
+      past_end slots nodes,
     )

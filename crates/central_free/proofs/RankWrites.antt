@@ -1,9 +1,9 @@
 -- Writes to the nodes of a tournament, and what they leave as it was.
-use Rattle.std.proofs.Common.{◌≡◌, ◌≢◌, ℕ, ◌+◌, ◌-◌, ◌*◌, ◌/◌, ◌<◌, ◌≤◌, List}
-use Rattle.std.proofs.Common.{◌++◌, length, get_or, set, take, drop, sym, ◌∙◌, ap, inl, inr, arith}
+use Rattle.std.proofs.Common.{◌≡◌, ◌≢◌, ℕ, ◌+◌, ◌-◌, ◌*◌, ◌/◌, ◌<◌, ◌≤◌, List, ◌++◌, length, get_or, set, take, drop, sym, ◌∙◌, ap, inl, inr, arith}
 use Rattle.std.proofs.lemmas.List.{get_or-set_same, get_or-set_other, length-set, get_or_past, get_or-drop, length-drop, drop_all, take_all, append-nil, length-take}
 use Rattle.std.proofs.lemmas.List.FromFn.{fill_by_all}
-use Rattle.std.proofs.lemmas.Bool.{cases_lt, cases_eq}
+use Rattle.std.proofs.lemmas.Bool.{cases_eq}
+use Rattle.std.proofs.lemmas.Bool.Decides.{nat_tests}
 use Rattle.central_free.specs.declared.ranking.Rank.{Rank}
 use Rattle.central_free.specs.declared.ranking.Standing.{Standing}
 use Rattle.central_free.specs.Ranking.{better, no_rank, no_standing, node_at, standings_of, HasLeaves, JoinsAt, IsJoined, IsJoinedBut}
@@ -19,11 +19,7 @@ HasWritten slots nodes old i = (k : ℕ) → k < i → node_at nodes (slots + k)
 module _ (slots : ℕ) (nodes old : List Rank) (i : ℕ) where
   pub HasWritten-more : (t : Standing) → length nodes ≡ 2 * slots → i < slots → t ≡ (node_at old i).standing
       → HasWritten slots nodes old i → HasWritten slots (set nodes (slots + i) (rank t i)) old (i + 1)
-  HasWritten-more t size less is so_far = λ k below.
-      (elim (cases_eq k i) [
-        | inl here ↦ rw here (get_or-set_same nodes (slots + i) (rank t i) no_rank (omega arith) ∙ ap (λ v. rank v i) is)
-        | inr other ↦ get_or-set_other nodes (slots + i) (slots + k) (rank t i) no_rank (λ same. other (omega arith)) ∙ so_far k (omega arith)
-      ])
+  HasWritten-more t size less is so_far = grind (arith, nat_tests, get_or-set_same, get_or-set_other)
 
   module _ (all : slots ≤ i) (written : HasWritten slots nodes old i) where
     pub HasLeaves-written : HasLeaves slots nodes
@@ -57,16 +53,11 @@ joined_at nodes m = set nodes m (best_child nodes m)
 
 -- one node is joined
 joined_here : (nodes : List Rank) (m : ℕ) → 0 < m → m < length nodes → JoinsAt (joined_at nodes m) m
-joined_here nodes m some within =
-    let r = best_child nodes m in
-    let left = get_or-set_other nodes m (2 * m) r no_rank (λ same. omega arith) in let right = get_or-set_other nodes m (2 * m + 1) r no_rank (λ same. omega arith) in
-    get_or-set_same nodes m r no_rank within ∙ (λ i. better (sym left i) (sym right i))
+joined_here nodes m some within = grind (arith, get_or-set_other, get_or-set_same)
 
 -- and no other but the one above it changes
 joined_there : (nodes : List Rank) (m i : ℕ) (r : Rank) → i ≢ m → 2 * i ≢ m → 2 * i + 1 ≢ m → JoinsAt nodes i → JoinsAt (set nodes m r) i
-joined_there nodes m i r self left right join =
-    let low = get_or-set_other nodes m (2 * i) r no_rank left in let high = get_or-set_other nodes m (2 * i + 1) r no_rank right in
-    get_or-set_other nodes m i r no_rank self ∙ join ∙ (λ k. better (sym low k) (sym high k))
+joined_there nodes m i r self left right join = grind (arith, get_or-set_other)
 
 pub IsJoinedBut-leaf : (slots : ℕ) (nodes : List Rank) (slot : ℕ) (r : Rank) → IsJoined slots nodes → IsJoinedBut slots (set nodes (slots + slot) r) ((slots + slot) / 2)
 IsJoinedBut-leaf slots nodes slot r joined = λ i more less other.
@@ -120,16 +111,7 @@ module _ (slots : ℕ) (nodes : List Rank) (slot : ℕ) (t : Standing) (size : l
 pub standings-grown : (few slots : ℕ) (old nodes : List Rank) → length old ≡ 2 * few → few ≤ slots
     → ((k : ℕ) → k < slots → get_or (standings_of slots nodes) k no_standing ≡ (node_at (drop few old) k).standing)
     → (k : ℕ) → get_or (standings_of slots nodes) k no_standing ≡ get_or (standings_of few old) k no_standing
-standings-grown few slots old nodes size room same k =
-    elim (cases_lt k few) [
-      | inl less ↦ same k (omega arith) ∙ ap (λ r. r.standing) (get_or-drop few old k no_rank) ∙ sym (get_or-standings_of few old k less)
-      | inr past ↦
-          (let none = get_or_past (standings_of few old) k no_standing (omega (arith, length-standings_of few old)) in
-          elim (cases_lt k slots) [
-            | inl inner ↦ same k inner ∙ ap (λ r. r.standing) (get_or_past (drop few old) k no_rank (omega (arith, length-drop few old))) ∙ sym none
-            | inr outer ↦ get_or_past (standings_of slots nodes) k no_standing (omega (arith, length-standings_of slots nodes)) ∙ sym none
-          ])
-    ]
+standings-grown few slots old nodes size room same k = grind (arith, nat_tests, get_or-drop, get_or-standings_of, get_or_past, length-standings_of, length-drop)
 
 -- elements that are written back whole
 pub refill : {X : Type 0} (n : ℕ) (new old : List X) → length new ≡ n → length old ≤ n → take n (new ++ drop (length new) old) ≡ new

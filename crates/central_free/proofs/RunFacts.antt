@@ -20,17 +20,12 @@ counts_by s None is some = absurd (omega (arith, count_none s.free is))
 counts_by s (Some i) is some = (take_counts s.free i is, length-set s.free i false)
 
 pub take_one_counts : (s : SpanState) → 0 < free_count s → (taken_count (after_take s (least s)) ≡ taken_count s + 1) × (free_count (after_take s (least s)) + 1 ≡ free_count s)
-take_one_counts s some =
-    let one = counts_by s (least s) refl some in
-    (one.0, omega (arith, one.0, one.1, count_both s.free, count_both (after_take s (least s)).free))
+take_one_counts s some = grind (arith, counts_by s (least s) refl some, count_both s.free, count_both (after_take s (least s)).free)
 
 -- and so do several
 pub run_counts : (k : ℕ) (s : SpanState) → k ≤ free_count s → (taken_count (span_after k s) ≡ taken_count s + k) × (free_count (span_after k s) + k ≡ free_count s)
 run_counts zero s few = (omega arith, omega arith)
-run_counts (suc k) s few =
-    let before = run_counts k s (omega arith) in
-    let one = take_one_counts (span_after k s) (omega (arith, before.1)) in
-    (omega (arith, before.0, one.0), omega (arith, before.1, one.1))
+run_counts (suc k) s few = grind (arith, run_counts k s, take_one_counts (span_after k s))
 
 pub span-span_after : (k : ℕ) (s : SpanState) → (span_after k s).span ≡ s.span
 span-span_after zero s = refl
@@ -50,18 +45,7 @@ pub record IsGiving (span : SpanState) (before : Contents Addr) (now : SpanState
   pub moves : (test : Addr → Bool) → count_by test (free_objects now) + count_by test out.items ≡ count_by test (free_objects span) + count_by test before.items
 
 pub IsGiving-none : (span : SpanState) (before : Contents Addr) → IsGiving span before span before 0
-IsGiving-none span before =
-    record {
-      is = refl;
-      items = sym (append-nil before.items);
-      count = refl;
-      spare = omega arith;
-      given = All-nil (IsTaken span);
-      fresh = All-nil (λ a. IsTaken span a → ⊥);
-      different = λ i j d less within. absurd (omega arith);
-      kept = λ a there. there;
-      moves = λ test. refl;
-    }
+IsGiving-none span before = grind (arith, append-nil, All-nil)
 
 pub IsGiving-more : {span : SpanState} {before : Contents Addr} {now : SpanState} {out : Contents Addr} {came : ℕ}
     → IsGiving span before now out came → (next : SpanState) (more : Contents Addr) (a : Addr)

@@ -1,6 +1,6 @@
 -- Spans in slots: where the span of a slot stands in the order of first bytes, and what a change of a slot makes of the order.
 use Rattle.std.proofs.Common.{◌≡◌, ◌≢◌, ℕ, zero, suc, ◌+◌, ◌-◌, ◌<◌, ◌≤◌, Bool, true, false, nat_lt, List, [], ◌∷◌}
-use Rattle.std.proofs.Common.{length, get_or, set, map, Option, Some, None, unwrap_or, refl, sym, ◌∙◌, ap, subst, inl, inr, arith}
+use Rattle.std.proofs.Common.{length, get_or, set, map, Option, Some, None, unwrap_or, refl, sym, ◌∙◌, ap, inl, inr, arith}
 use Rattle.std.specs.Prelude.{All}
 use Rattle.std.specs.List.{remove}
 use Rattle.std.specs.Map.{remove_entry}
@@ -14,14 +14,14 @@ use Rattle.std.proofs.lemmas.List.Elements.{All-head, All-tail}
 use Rattle.std.proofs.lemmas.List.Edits.{length-remove, get_or-remove_below, get_or-remove_above}
 use Rattle.std.proofs.lemmas.Option.{none-some, same_Some}
 use Rattle.std.proofs.lemmas.Bool.{cases_lt, cases_eq, cases_order, cond-true, cond-false, le-ltb, lt-ltb}
+use Rattle.std.proofs.lemmas.Bool.Decides.{nat_tests}
 use Rattle.tc_units.specs.Sorted.{with_item}
 use Rattle.tc_units.specs.declared.spans.ClassRow.{ClassRow}
 use Rattle.span_list.specs.Span.{SpanState, first_byte}
 use Rattle.central_free.specs.declared.ranking.Standing.{Standing}
 use Rattle.central_free.specs.Ranking.{no_standing, standing_at, IsBestSlot}
-use Rattle.central_free.specs.Central.{IsBefore, IsSound, IsApartFrom, with_span}
+use Rattle.central_free.specs.Central.{IsSound, IsApartFrom, with_span}
 use Rattle.central_free.specs.Slots.{weight, standing_of, standing_in, slot_at, span_at, no_span, spans_of, IsFiled, IsKept}
-use Rattle.central_free.proofs.SoundFacts.{has_pages}
 use Rattle.tc_units.proofs.SortedFacts.{All-with_item, Any-new, Any-old, map-with_item}
 use Rattle.central_free.proofs.ChoiceFacts.{IsBestPlace}
 
@@ -50,9 +50,7 @@ pub record StandsAt (slots : List (Option SpanState)) (entries : List (ℕ × �
 -- of two places the span at the lower one begins below the other
 below : {row : ClassRow} {spans : List SpanState} → IsSound (record { row = row; spans = spans })
     → (i j : ℕ) (d : SpanState) → i < j → j < length spans → (get_or spans i d).span.first.0 < (get_or spans j d).span.first.0
-below {row = row} {spans = spans} sound i j d less within =
-    let before : IsBefore (get_or spans i d) (get_or spans j d) = sound.apart i j d less within in
-    omega (arith, before, has_pages sound i d (omega arith))
+below {row = row} {spans = spans} sound i j d less within = grind (arith)
 
 -- two places whose spans are one are one
 one_place : {row : ClassRow} {spans : List SpanState} → IsSound (record { row = row; spans = spans }) → (s : SpanState) (i j : ℕ)
@@ -66,11 +64,7 @@ one_place {spans = spans} sound s i j within_i within_j is_i is_j =
 
 -- a slot with a span is one of the list
 slot_within : (slots : List (Option SpanState)) (k : ℕ) (s : SpanState) → slot_at slots k ≡ Some s → k < length slots
-slot_within slots k s has =
-    elim (cases_lt k (length slots)) [
-      | inl less ↦ less
-      | inr past ↦ absurd (none-some s (sym (get_or_past slots k None past) ∙ has))
-    ]
+slot_within slots k s has = grind (arith, nat_tests, none-some, get_or_past)
 
 pub slot_at-set : (slots : List (Option SpanState)) (k : ℕ) (s t : SpanState) → slot_at slots k ≡ Some s → slot_at (set slots k (Some t)) k ≡ Some t
 slot_at-set slots k s t has = get_or-set_same slots k (Some t) None (slot_within slots k s has)
@@ -94,11 +88,7 @@ module _ {slots now : List (Option SpanState)} {k : ℕ} {o : Option SpanState} 
   -- each slot stands as what it has
   ranked_now : (ts : List Standing) → k < length ts → ((m : ℕ) → standing_at ts m ≡ standing_in (slot_at slots m))
       → (m : ℕ) → standing_at (set ts k (standing_in o)) m ≡ standing_in (slot_at now m)
-  ranked_now ts inside ranked m =
-      elim (cases_eq m k) [
-        | inl same ↦ rw (same, it.here) (get_or-set_same ts k (standing_in o) no_standing inside)
-        | inr other ↦ get_or-set_other ts k m (standing_in o) no_standing other ∙ ranked m ∙ ap standing_in (sym (it.others m other))
-      ]
+  ranked_now ts inside ranked m = grind (arith, nat_tests, get_or-set_same, get_or-set_other)
 
   -- no slot behind the standings has a span
   room_now : (ts : List Standing) (t : Standing) → k < length ts
@@ -117,15 +107,7 @@ remove_entry-is test (e ∷ es) (suc j) within early here =
 
 -- the key of an entry by another's
 at_other : (q x : ℕ) → q ≢ x → is_at (nat_cmp q) x ≡ false
-at_other q x other =
-    elim (cases_order q x) [
-      | inl same ↦ absurd (other same)
-      | inr differ ↦
-          elim differ [
-            | inl less ↦ ap is_eq (sym (nat_cmp_is q x Less less))
-            | inr more ↦ ap is_eq (sym (nat_cmp_is q x Greater more))
-          ]
-    ]
+at_other q x other = grind (arith, cases_order)
 
 at_same : (q x : ℕ) → q ≡ x → is_at (nat_cmp q) x ≡ true
 at_same q x same = ap is_eq (sym (nat_cmp_is q x Equal same))
@@ -134,11 +116,7 @@ at_same q x same = ap is_eq (sym (nat_cmp_is q x Equal same))
 without : (entries : List (ℕ × ℕ)) (j i : ℕ) (d : ℕ × ℕ) → j < length entries → i < length (remove entries j)
     → (m : ℕ) × (m < length entries) × (m ≢ j) × (get_or (remove entries j) i d ≡ get_or entries m d)
 without entries j i d within less =
-    let shorter : length (remove entries j) + 1 ≡ length entries = length-remove entries j within in
-    elim (cases_lt i j) [
-      | inl below ↦ (i, omega arith, λ same. omega arith, get_or-remove_below entries j d i below within)
-      | inr above ↦ (i + 1, omega arith, λ same. omega arith, get_or-remove_above entries j d i above within)
-    ]
+    grind (arith, nat_tests, length-remove entries j within, get_or-remove_below entries j d i, get_or-remove_above entries j d i)
 
 -- a span in another's stead stands where that stood
 pub spans_of-set : {slots : List (Option SpanState)} {entries : List (ℕ × ℕ)} {k : ℕ} {s : SpanState} {j : ℕ}
@@ -230,9 +208,7 @@ module _ {slots : List (Option SpanState)} {entries : List (ℕ × ℕ)} {ts : L
 
   -- where no slot has a weight, no span has
   pub best_none-spans : IsBestSlot ts None → (j : ℕ) (d : SpanState) → j < length (spans_of slots entries) → weight (get_or (spans_of slots entries) j d) ≡ 0
-  best_none-spans none j d less =
-      let long = many slots entries in
-      ap weight (get_or_default (spans_of slots entries) j d no_span less) ∙ ap (λ t. t.weight) (sym (weight_of_place j nobody (omega arith))) ∙ none (get_or entries j nobody).1
+  best_none-spans none j d less = grind (arith, many slots entries, get_or_default (spans_of slots entries) j d no_span less, weight_of_place j nobody, nobody)
 
   -- a slot with a span has a standing
   has_standing : (k : ℕ) (s : SpanState) → slot_at slots k ≡ Some s → k < length ts
@@ -242,17 +218,7 @@ module _ {slots : List (Option SpanState)} {entries : List (ℕ × ℕ)} {ts : L
   pub IsKept-set : (k : ℕ) (s t : SpanState) → slot_at slots k ≡ Some s → t.span ≡ s.span → IsKept (set slots k (Some t)) entries (set ts k (standing_of t))
   IsKept-set k s t has same =
       let it = changed slots k s (Some t) has in let inside = has_standing k s has in
-      record {
-        filed = λ i d less. (
-            let e = get_or entries i d in
-            elim (cases_eq e.1 k) [
-              | inl same_slot ↦ record { has = rw (same_slot, it.here) refl; begins = rw (same_slot, it.here, same) (rw (same_slot, has) at (kept.filed i d less).begins) }
-              | inr other ↦ still_filed it e other (kept.filed i d less)
-            ]);
-        placed = λ m u has_u. elim (cases_eq m k) [ inl same_slot ↦ rw same_slot (kept.placed k s has) | inr other ↦ kept.placed m u (sym (it.others m other) ∙ has_u) ];
-        room = room_now it ts (standing_of t) inside kept.room;
-        ranked = ranked_now it ts inside kept.ranked;
-      }
+      grind (arith, nat_tests, still_filed it, it.others, room_now it ts (standing_of t) inside kept.room, ranked_now it ts inside kept.ranked)
 
   pub IsKept-remove : {k : ℕ} {s : SpanState} {j : ℕ} → StandsAt slots entries k s j → IsKept (set slots k None) (remove entries j) (set ts k no_standing)
   IsKept-remove {k = k} {s = s} {j = j} at =
@@ -265,9 +231,7 @@ module _ {slots : List (Option SpanState)} {entries : List (ℕ × ℕ)} {ts : L
             let apart : i ≢ j = λ same. other (sym is ∙ ap (λ x. x.1) (sym there) ∙ ap (λ n. (get_or entries n e).1) same ∙ at.entry e) in
             elim (cases_lt i j) [
               | inl lower ↦ (i, e, omega (arith, at.within), get_or-remove_below entries j e i lower at.within ∙ there, is)
-              | inr above ↦
-                  (let place : i - 1 + 1 ≡ i = omega arith in
-                  (i - 1, e, omega arith, get_or-remove_above entries j e (i - 1) (omega arith) at.within ∙ ap (λ n. get_or entries n e) place ∙ there, is))
+              | inr above ↦ grind (arith, get_or-remove_above entries j e (i - 1))
             ]);
         room = room_now it ts no_standing inside kept.room;
         ranked = ranked_now it ts inside kept.ranked;
@@ -276,9 +240,7 @@ module _ {slots : List (Option SpanState)} {entries : List (ℕ × ℕ)} {ts : L
   -- no span begins by its first byte yet
   pub new_key : (s : SpanState) → 0 < s.span.pages → All (λ t. 0 < t.span.pages) (spans_of slots entries) → All (IsApartFrom s.span) (spans_of slots entries)
       → (i : ℕ) (d : ℕ × ℕ) → i < length entries → (get_or entries i d).0 ≢ first_byte s.span
-  new_key s some pages apart i d less same =
-      let long = many slots entries in let first = key_of_place i d no_span less in
-      elim (apart i no_span (omega arith)) [ inl before ↦ omega (arith, before, some, first, same) | inr behind ↦ omega (arith, behind, pages i no_span (omega arith), first, same) ]
+  new_key s some pages apart i d less same = grind (arith, many slots entries, key_of_place i d no_span less, apart i no_span, pages i no_span)
 
   module _ {now : List (Option SpanState)} {k : ℕ} {s : SpanState} (filled : IsFilled slots now k s) where
     old_filed : All (IsFiled now) entries
@@ -324,9 +286,7 @@ module _ {slots : List (Option SpanState)} {entries : List (ℕ × ℕ)} {ts : L
 
     -- where the span of a slot stands
     pub placed_at : (k : ℕ) (s : SpanState) → slot_at slots k ≡ Some s → (j : ℕ) × StandsAt slots entries k s j
-    placed_at k s has =
-        let (j, e, within, there, slot) = kept.placed k s has in let here = stands_at k j e within (ap (λ x. x.1) there ∙ slot) in
-        (j, subst (λ u. StandsAt slots entries k u j) (same_Some (span_at slots k) s (sym here.has ∙ has)) here)
+    placed_at k s has = grind (arith, stands_at, same_Some)
 
     -- the place of the best slot's span has the first of the greatest weights
     pub best_place : {k : ℕ} {s : SpanState} {j : ℕ} → IsBestSlot ts (Some k) → StandsAt slots entries k s j → IsBestPlace (map weight (spans_of slots entries)) j
@@ -339,20 +299,14 @@ module _ {slots : List (Option SpanState)} {entries : List (ℕ × ℕ)} {ts : L
         let top = ap (λ t. t.weight) mine in (
           omega (arith, weight_j, top, best.0),
           λ i. elim (cases_lt i (length spans)) [
-            | inl less ↦
-                elim (best.1 (get_or entries i nobody).1) [
-                  | inl more ↦ omega (arith, weight_j, weight_i i less, top, ap (λ t. t.weight) (other i less), more)
-                  | inr same ↦ omega (arith, weight_j, weight_i i less, top, ap (λ t. t.weight) (other i less), same.0)
-                ]
+            | inl less ↦ grind (arith, best.1 (get_or entries i nobody).1, nobody, weight_i i less, other i less)
             | inr past ↦ omega (arith, get_or_past (map weight spans) i 0 (omega (arith, length-map spans weight)))
           ],
           λ i early. (
               let less : i < length spans = omega (arith, at.listed) in
               elim (best.1 (get_or entries i nobody).1) [
                 | inl more ↦ omega (arith, weight_j, weight_i i less, top, ap (λ t. t.weight) (other i less), more)
-                | inr same ↦
-                    (let first = ap (λ (u : SpanState). u.span.first.0) (at.span no_span) in
-                    absurd (omega (arith, below sound i j no_span early at.listed, same.1, ap (λ t. t.first.0) mine, ap (λ t. t.first.0) (other i less), first)))
+                | inr same ↦ grind (arith, at.span no_span, below sound i j no_span early at.listed, other i less)
               ]),
         )
 

@@ -1,45 +1,28 @@
 -- A sound list of spans stays so where one of them gives or takes an object.
-use Rattle.std.proofs.Common.{◌≡◌, ℕ, ◌+◌, ◌<◌, Bool, false, List, [], ◌∷◌, length, get_or, set}
-use Rattle.std.proofs.Common.{count_by, Option, Some, None, cond, refl, ◌∙◌, ap, inl, inr, arith}
+use Rattle.std.proofs.Common.{◌≡◌, ℕ, ◌+◌, ◌<◌, Bool, List, [], ◌∷◌, length, get_or, set, count_by, Option, Some, None, cond, refl, ◌∙◌, ap, arith}
 use Rattle.std.specs.Prelude.{All}
 use Rattle.std.specs.List.{flat_map, sum_by}
 use Rattle.std.proofs.lemmas.List.{get_or-set_same, get_or-set_other, length-set, get_or_default}
 use Rattle.std.proofs.lemmas.List.Elements.{All-set}
 use Rattle.std.proofs.lemmas.List.Sums.{sum_by-cons, sum_by-append, sum_by-set}
-use Rattle.std.proofs.lemmas.Bool.{cases_eq}
+use Rattle.std.proofs.lemmas.Bool.Decides.{nat_tests}
 use Rattle.tc_units.specs.declared.units.Addr.{Addr}
 use Rattle.tc_units.specs.declared.spans.ClassRow.{ClassRow}
 use Rattle.span_list.specs.Span.{SpanState, IsCut, least, with_object, after_take, free_objects}
 use Rattle.span_list.proofs.SpanFacts.{take_counts}
-use Rattle.central_free.specs.Central.{Central, IsBefore, IsOfRow, IsSound, free_in}
+use Rattle.central_free.specs.Central.{Central, IsOfRow, IsSound, free_in}
 
 -- each span has a page
 pub has_pages : {central : Central} → IsSound central → All (λ s. 0 < s.span.pages) central.spans
-has_pages {central} sound = λ k d within.
-    (let row : IsOfRow central.row (get_or central.spans k d) = sound.of_row k d within in
-    omega (arith, row.pages, sound.some, sound.fits))
+has_pages {central} sound = grind (arith)
 
 -- a span of which one object is written is cut as it was
 pub IsCut-with_object : (s : SpanState) (i : ℕ) (free : Bool) → IsCut s → IsCut (with_object s i free)
-IsCut-with_object s i free cut =
-    record {
-      some = cut.some;
-      sizes = cut.sizes;
-      first = cut.first;
-      pages = cut.pages;
-      objects = length-set s.free i free ∙ cut.objects;
-    }
+IsCut-with_object s i free cut = grind (arith, length-set)
 
 -- a take leaves a span of its row
 IsOfRow-taken : (row : ClassRow) (s : SpanState) (at : Option ℕ) → least s ≡ at → IsOfRow row s → IsOfRow row (after_take s at)
-IsOfRow-taken row s None is of_row = of_row
-IsOfRow-taken row s (Some i) is of_row =
-    record {
-      cut = IsCut-with_object s i false of_row.cut;
-      size = of_row.size;
-      pages = of_row.pages;
-      taken = omega (arith, take_counts s.free i is);
-    }
+IsOfRow-taken row s at is of_row = grind (arith, IsCut-with_object, take_counts)
 
 pub IsOfRow-after_take : (row : ClassRow) (s : SpanState) → IsOfRow row s → IsOfRow row (after_take s (least s))
 IsOfRow-after_take row s of_row = IsOfRow-taken row s (least s) refl of_row
@@ -54,25 +37,13 @@ span-after_take s = span-taken s (least s)
 -- a span in another's stead, with the same pages
 same_span : (spans : List SpanState) (k : ℕ) (t : SpanState) → k < length spans → ((d : SpanState) → t.span ≡ (get_or spans k d).span)
     → (i : ℕ) (d : SpanState) → (get_or (set spans k t) i d).span ≡ (get_or spans i d).span
-same_span spans k t within same i d =
-    elim (cases_eq i k) [
-      | inl here ↦
-          rw here (ap (λ u. u.span) (get_or-set_same spans k t d within) ∙ same d)
-      | inr other ↦ ap (λ u. u.span) (get_or-set_other spans k i t d other)
-    ]
+same_span spans k t within same i d = grind (arith, nat_tests, get_or-set_same, get_or-set_other)
 
 pub IsSound-set : {row : ClassRow} {spans : List SpanState} → IsSound (record { row = row; spans = spans }) → (k : ℕ) (s t : SpanState)
     → k < length spans → s ≡ get_or spans k s → t.span ≡ s.span → IsOfRow row t → IsSound (record { row = row; spans = set spans k t })
 IsSound-set {row = row} {spans = spans} sound k s t within read same of_row =
     let pages = same_span spans k t within (λ d. same ∙ ap (λ u. u.span) (read ∙ get_or_default spans k s d within)) in
-    record {
-      some = sound.some;
-      fits = sound.fits;
-      of_row = All-set (IsOfRow row) spans k t of_row sound.of_row;
-      apart = λ i j d less inside.
-          let before : IsBefore (get_or spans i d) (get_or spans j d) = sound.apart i j d less (omega (arith, length-set spans k t)) in
-          omega (arith, before, ap (λ u. u.first.0) (pages i d), ap (λ u. u.pages) (pages i d), ap (λ u. u.first.0) (pages j d));
-    }
+    grind (arith, All-set (IsOfRow row) spans k t of_row sound.of_row, sound.apart, length-set spans k t, pages)
 
 -- how often something is among the free objects of all spans
 pub count-flat_map : {X A : Type 0} (test : A → Bool) (f : X → List A) (xs : List X) → count_by test (flat_map f xs) ≡ sum_by (λ x. count_by test (f x)) xs
@@ -83,6 +54,4 @@ count-flat_map test f (x ∷ xs) =
 -- one span for another changes that by the two spans' own
 pub count-set : (test : Addr → Bool) (spans : List SpanState) (k : ℕ) (s t : SpanState) → k < length spans → s ≡ get_or spans k s
     → count_by test (free_in (set spans k t)) + count_by test (free_objects s) ≡ count_by test (free_in spans) + count_by test (free_objects t)
-count-set test spans k s t within read =
-    let old = ap (λ u. count_by test (free_objects u)) read in
-    omega (arith, count-flat_map test free_objects (set spans k t), count-flat_map test free_objects spans, sum_by-set (λ u. count_by test (free_objects u)) spans k t s within, old)
+count-set test spans k s t within read = grind (arith, count-flat_map, sum_by-set)

@@ -1,9 +1,9 @@
 -- Several takes from one span are what as many takes from the list give: it goes on to serve first until it has no free object.
-use Rattle.std.proofs.Common.{◌≡◌, ◌≢◌, ℕ, zero, suc, ◌+◌, ◌<◌, ◌≤◌, List, [], ◌++◌, length}
-use Rattle.std.proofs.Common.{get_or, set, map, Option, Some, None, MatchOption, refl, sym, ◌∙◌, ap, inl, inr, arith}
+use Rattle.std.proofs.Common.{◌≡◌, ℕ, zero, suc, ◌+◌, ◌<◌, ◌≤◌, List, ◌++◌, length}
+use Rattle.std.proofs.Common.{get_or, set, map, Option, Some, None, MatchOption, refl, sym, ◌∙◌, ap, arith}
 use Rattle.std.specs.Option.{option_to_list}
 use Rattle.std.proofs.lemmas.List.{get_or-map, get_or-set_same, get_or-set_other, length-map, length-set, map-set, set-set, set-get_or}
-use Rattle.std.proofs.lemmas.Bool.{cases_eq}
+use Rattle.std.proofs.lemmas.Bool.Decides.{nat_tests}
 use Rattle.tc_units.specs.declared.units.Addr.{Addr}
 use Rattle.tc_units.specs.declared.spans.ClassRow.{ClassRow}
 use Rattle.span_list.specs.Span.{SpanState, least, taken_from, after_take, free_count}
@@ -22,18 +22,17 @@ took objects spans = record { objects = objects; spans = spans }
 best_stays : (spans : List SpanState) (j : ℕ) (s t : SpanState) → j < length spans → ((d : SpanState) → get_or spans j d ≡ s)
     → weight s ≤ weight t → IsBestPlace (map weight spans) j → IsBestPlace (map weight (set spans j t)) j
 best_stays spans j s t within here more best =
-    let is : map weight (set spans j t) ≡ set (map weight spans) j (weight t) = map-set weight spans j t in
-    let inside : j < length (map weight spans) = omega (arith, length-map spans weight) in
-    let mine : get_or (map weight (set spans j t)) j 0 ≡ weight t = ap (λ ws. get_or ws j 0) is ∙ get_or-set_same (map weight spans) j (weight t) 0 inside in
-    let was : get_or (map weight spans) j 0 ≡ weight s = get_or-map weight spans j s 0 within ∙ ap weight (here s) in
-    let other : (i : ℕ) → i ≢ j → get_or (map weight (set spans j t)) i 0 ≡ get_or (map weight spans) i 0 =
-    λ i differ. ap (λ ws. get_or ws i 0) is ∙ get_or-set_other (map weight spans) j i (weight t) 0 differ in (
-      omega (arith, mine, was, best.0),
-      λ i. elim (cases_eq i j) [
-        | inl same ↦ rw same (omega arith)
-        | inr differ ↦ omega (arith, mine, was, other i differ, best.1 i)
-      ],
-      λ i early. omega (arith, mine, was, other i (λ same. omega arith), best.2 i early),
+    grind (
+      arith,
+      nat_tests,
+      map-set weight spans j t,
+      length-map spans weight,
+      get_or-set_same (map weight spans) j (weight t) 0,
+      get_or-map weight spans j s 0 within,
+      here s,
+      get_or-set_other (map weight spans) j,
+      best.1,
+      best.2,
     )
 
 -- all that is known behind k takes from the span at a place
@@ -49,9 +48,7 @@ one_more xs ys (Some a) some = ap (λ o. and_then xs (taken 0) o) some.0
 module _ {row : ClassRow} {spans : List SpanState} (sound : IsSound (record { row = row; spans = spans })) (j : ℕ) (s : SpanState)
     (within : j < length spans) (here : (d : SpanState) → get_or spans j d ≡ s) (best : IsBestPlace (map weight spans) j) where
   run : (k : ℕ) → k ≤ free_count s → IsRun row spans j s k
-  run zero few =
-      let same : set spans j s ≡ spans = ap (set spans j) (sym (here s)) ∙ set-get_or spans j s in
-      record { is = ap (took []) (sym same); sound = rw same sound; best = λ _. rw same best }
+  run zero few = grind (arith, set-get_or spans j s)
   run (suc k) few =
       let before = run k (omega arith) in let counts = run_counts k s (omega arith) in
       let t = span_after k s in let u = after_take t (least t) in let one = option_to_list (taken_from t (least t)) in

@@ -1,37 +1,30 @@
 -- Several takes, one by one: what stands after some of them.
 use Rattle.std.proofs.Common.{◌≡◌, ◌≢◌, ℕ, zero, suc, ◌+◌, ◌-◌, ◌<◌, ◌≤◌, ◌⊎◌, ◌↔◌, Bool, List, [], ◌∷◌}
-use Rattle.std.proofs.Common.{◌++◌, length, get_or, set, count_by, Option, Some, None, refl, sym, ◌∙◌, ap, subst, inl, inr, arith}
+use Rattle.std.proofs.Common.{◌++◌, length, get_or, set, count_by, Option, Some, None, refl, sym, ◌∙◌, ap, subst, inl, arith}
 use Rattle.std.specs.Prelude.{All}
 use Rattle.std.specs.Option.{option_map}
 use Rattle.std.proofs.lemmas.List.{append_assoc, append-nil, length-append}
 use Rattle.std.proofs.lemmas.List.Elements.{All-nil, All-append}
 use Rattle.std.proofs.lemmas.Option.{none-some}
-use Rattle.std.proofs.lemmas.Bool.{cases_lt, ltb-true, lt-ltb, le-ltb}
+use Rattle.std.proofs.lemmas.Bool.{le-ltb}
+use Rattle.std.proofs.lemmas.Bool.Decides.{nat_tests}
 use Rattle.tc_units.specs.declared.units.Addr.{Addr}
 use Rattle.tc_units.specs.declared.spans.ClassRow.{ClassRow}
 use Rattle.tc_units.specs.Bag.{Contents}
-use Rattle.span_list.specs.Span.{SpanState, free_count, least, address, taken_from, after_take}
+use Rattle.span_list.specs.Span.{SpanState, free_count, least, taken_from, after_take}
 use Rattle.span_list.proofs.SpanFacts.{count_none}
 use Rattle.central_free.specs.Central.{Central, chosen, place_at, taken_one, taken_one_from, Took, taken, and_then, IsSound, IsTakenIn, AreDifferent, free_in}
 use Rattle.central_free.proofs.Differ.{AreDifferent-append}
-use Rattle.central_free.proofs.ChoiceFacts.{IsAmong, chosen_among, chosen_none, chosen_some}
+use Rattle.central_free.proofs.ChoiceFacts.{chosen_among, chosen_none, chosen_some}
 
 -- where nothing is taken, no span has a free object, and the other way round
 one_none : (spans : List SpanState) (s : SpanState) (at : Option ℕ) → least s ≡ at
     → option_map {U = Addr × List SpanState} (λ a. (a, set spans (place_at s.span.first.0 spans) (after_take s (least s)))) (taken_from s at) ≡ None → free_count s ≡ 0
-one_none spans s None is none = count_none s.free is
-one_none spans s (Some i) is none =
-    absurd (none-some (address s i, set spans (place_at s.span.first.0 spans) (after_take s (least s))) (sym none))
+one_none spans s at is none = grind (arith, count_none, none-some)
 
 from_none : (spans : List SpanState) (pick : Option SpanState) → chosen spans ≡ pick → taken_one_from spans pick ≡ None → All (λ s. free_count s ≡ 0) spans
-from_none spans None is none = λ k d within.
-    (elim (cases_lt 0 (free_count (get_or spans k d))) [
-      | inl some ↦ absurd (chosen_some spans k d within (lt-ltb 0 (free_count (get_or spans k d)) some) is)
-      | inr none_free ↦ omega arith
-    ])
-from_none spans (Some s) is none =
-    (let among : IsAmong spans s = chosen_among spans s is in
-    absurd (omega (arith, ltb-true 0 (free_count s) among.free, one_none spans s (least s) refl none)))
+from_none spans None is none = grind (arith, nat_tests, chosen_some)
+from_none spans (Some s) is none = grind (arith, nat_tests, chosen_among spans s is, one_none spans s (least s) refl none)
 
 pub nothing_free : (spans : List SpanState) → taken_one spans ≡ None → All (λ s. free_count s ≡ 0) spans
 nothing_free spans none = from_none spans (chosen spans) refl none
@@ -43,16 +36,11 @@ nothing_taken spans all =
 -- so nothing comes exactly where nothing is asked for or free
 came_none : (n : ℕ) (spans : List SpanState) (one : Option (Addr × List SpanState)) → taken_one spans ≡ one
     → (length (and_then spans (taken n) one).objects ≡ 0 → All (λ s. free_count s ≡ 0) spans) × (All (λ s. free_count s ≡ 0) spans → length (and_then spans (taken n) one).objects ≡ 0)
-came_none n spans None is = (λ _. nothing_free spans is, λ _. refl)
-came_none n spans (Some one) is =
-    (λ clash. absurd (omega arith), λ all. absurd (none-some one (sym (nothing_taken spans all) ∙ is)))
+came_none n spans one is = grind (arith, nothing_free, none-some, nothing_taken)
 
 took_none : (n : ℕ) (spans : List SpanState) → (length (taken n spans).objects ≡ 0) ↔ ((n ≡ 0) ⊎ All (λ s. free_count s ≡ 0) spans)
 took_none zero spans = (λ _. inl refl, λ _. refl)
-took_none (suc n) spans = (
-  λ none. inr ((came_none n spans (taken_one spans) refl).0 none),
-  λ some. elim some [ inl clash ↦ absurd (omega arith) | inr all ↦ (came_none n spans (taken_one spans) refl).1 all ],
-)
+took_none (suc n) spans = grind (arith, came_none n spans (taken_one spans) refl)
 
 abbrev took : List Addr → List SpanState → Took
 took objects spans = record { objects = objects; spans = spans }
@@ -94,19 +82,7 @@ pub record IsTaking (start now : Central) (before out : Contents Addr) (came : �
   pub moves : (test : Addr → Bool) → count_by test (free_in now.spans) + count_by test out.items ≡ count_by test (free_in start.spans) + count_by test before.items
 
 pub IsTaking-none : (start : Central) (before : Contents Addr) → IsSound start → IsTaking start start before before 0
-IsTaking-none start before sound =
-    record {
-      is = refl;
-      items = sym (append-nil before.items);
-      count = refl;
-      spare = omega arith;
-      sound = sound;
-      given = All-nil (IsTakenIn start.spans);
-      fresh = All-nil (λ a. IsTakenIn start.spans a → ⊥);
-      different = λ i j d less within. absurd (omega arith);
-      kept = λ a there. there;
-      moves = λ test. refl;
-    }
+IsTaking-none start before sound = grind (arith, append-nil, All-nil)
 
 module _ {start now : Central} {before out : Contents Addr} {came : ℕ} (so_far : IsTaking start now before out came) where
   -- a run of them
@@ -138,16 +114,7 @@ module _ {start now : Central} {before out : Contents Addr} {came : ℕ} (so_far
 
   -- where no more comes, as many takes as were asked for give no more
   taken-ended : (n : ℕ) → came ≤ n → (came < n → taken_one now.spans ≡ None) → taken came start.spans ≡ taken n start.spans
-  taken-ended n few stopped =
-      let t = taken came start.spans in
-      let rest : taken (n - came) t.spans ≡ took [] t.spans = (
-      elim (cases_lt came n) [
-        | inl less ↦ taken-stopped (n - came) t.spans (ap (λ u. taken_one u.spans) (sym so_far.is) ∙ stopped less)
-        | inr all ↦ (let none : n - came ≡ 0 = omega arith in ap (λ j. taken j t.spans) none)
-      ]) in
-      let whole : came + (n - came) ≡ n = omega arith in
-      ap (λ xs. took xs t.spans) (sym (append-nil t.objects)) ∙ ap (λ u. took (t.objects ++ u.objects) u.spans) (sym rest)
-      ∙ sym (taken-add came (n - came) start.spans) ∙ ap (λ k. taken k start.spans) whole
+  taken-ended n few stopped = grind (arith, nat_tests, taken-stopped (n - came), stopped, append-nil, taken-add came (n - came) start.spans)
 
 -- what stands then
 pub record IsTook (n : ℕ) (start now : Central) (before out : Contents Addr) (came : ℕ) : Type 0 where

@@ -1,5 +1,4 @@
-use Rattle.std.proofs.Common.{◌≡◌, ◌<◌, ◌*◌, ◌/◌, List, length, refl, arith}
-use Rattle.central_free.specs.declared.ranking.Rank.{Rank}
+use Rattle.std.proofs.Common.{refl, arith}
 use Rattle.central_free.proofs.RankWrites.{HasSameLeaves-more, HasLeaves-same, standings_of-same, IsJoinedBut-up, IsJoined-all}
 use Rattle.central_free.proofs.ranking.join_up.Goals as goal
 
@@ -7,15 +6,7 @@ pub loop-node-init : goal.loop-node-init
 loop-node-init c = (c.requires.inside, λ k less. refl, c.requires.others)
 
 pub loop-node-preserved : goal.loop-node-preserved
-loop-node-preserved c =
-    let m = c.loop-node.node / 2 in
-    let nodes : List Rank = c.loop-node.nodes in
-    let size : length nodes ≡ 2 * c.args.slots = omega (arith, c.requires.size) in
-    let inner : m < c.args.slots = omega (arith, c.loop-node.invariant.0) in (
-      omega (arith, c.loop-node.invariant.0),
-      HasSameLeaves-more c.args.slots c.args.nodes.now nodes m c.better.result inner c.loop-node.invariant.1,
-      rw c.better.ensures (IsJoinedBut-up c.args.slots nodes m (omega arith) inner size c.loop-node.invariant.2),
-    )
+loop-node-preserved c = grind (arith, HasSameLeaves-more c.args.slots c.args.nodes.now, IsJoinedBut-up c.args.slots)
 
 pub returns-clause-leaves : goal.returns-clause-leaves
 returns-clause-leaves c =

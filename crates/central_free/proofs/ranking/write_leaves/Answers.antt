@@ -1,17 +1,12 @@
-use Rattle.std.proofs.Common.{◌≡◌, sym, ◌∙◌, ap, arith}
+use Rattle.std.proofs.Common.{◌≡◌, arith}
 use Rattle.std.proofs.lemmas.List.{get_or_past}
-use Rattle.central_free.specs.Ranking.{no_rank, node_at}
+use Rattle.central_free.specs.Ranking.{node_at}
 use Rattle.central_free.proofs.RankWrites.{HasWritten-more, HasLeaves-written, standings-written}
 use Rattle.central_free.proofs.ranking.write_leaves.Goals as goal
-use Rattle.central_free.proofs.ranking.write_leaves.Goals.{then-slot-old, else-slot-old}
 
 -- what is written is the rank's standing, or that of no span behind the ranks
 read : (c : goal.Joined-slot-old) → c.if-slot-old.standing ≡ (node_at c.args.old.now c.loop-slot.slot).standing
-read c =
-    elim c.if-slot-old.branch [
-      | then-slot-old w ↦ w.standing-is
-      | else-slot-old w ↦ w.standing-is ∙ w.none-standing.ensures ∙ sym (ap (λ r. r.standing) (get_or_past c.args.old.now c.loop-slot.slot no_rank w.if-slot-old.false))
-    ]
+read c = grind (arith, get_or_past)
 
 pub loop-slot-preserved : goal.loop-slot-preserved
 loop-slot-preserved c =

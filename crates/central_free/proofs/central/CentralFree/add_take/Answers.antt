@@ -1,13 +1,12 @@
-use Rattle.std.proofs.Common.{◌≡◌, ◌^◌, ◌<◌, ◌≤◌, ℕ, List, ◌++◌, length, get_or, set, count_by, sym, ◌∙◌, ap, subst, arith, rules}
+use Rattle.std.proofs.Common.{◌≡◌, ◌<◌, List, ◌++◌, length, sym, ◌∙◌, ap, subst, arith}
 use Rattle.std.specs.Prelude.{All}
-use Rattle.span_list.specs.Span.{SpanState, first_byte, all_free, free_objects}
+use Rattle.span_list.specs.Span.{SpanState, first_byte}
 use Rattle.std.specs.BTreeMap.{insert_entry}
 use Rattle.std.specs.Ordering.{nat_cmp}
 use Rattle.tc_units.specs.declared.spans.ClassRow.{ClassRow}
-use Rattle.central_free.specs.declared.ranking.Standing.{Standing}
-use Rattle.central_free.specs.Central.{Central, IsOfRow, IsApartFrom, opened, opening, with_span, IsSound, free_in, IsTakenIn}
+use Rattle.central_free.specs.Central.{Central, IsOfRow, IsApartFrom, opened, opening, with_span, IsSound, IsTakenIn}
 use Rattle.central_free.specs.Runs.{span_after, given_by}
-use Rattle.central_free.specs.Slots.{spans_of, slot_at, IsKept}
+use Rattle.central_free.specs.Slots.{spans_of}
 use Rattle.central_free.proofs.SoundFacts.{has_pages}
 use Rattle.central_free.proofs.AddFacts.{opened-all, length-opening, some_objects, IsOfRow-opened, IsSound-with_span, count-with_span}
 use Rattle.central_free.proofs.AddFacts.{opening-taken, opening-is_taken, opening-different, kept-with_span}
@@ -32,22 +31,13 @@ before c = subst IsSound c.self.view_is c.self.invariant.0
 opens : (c : goal.After-insert_reserved)
     → (c.take_some-came.result ≡ length (opening c.args.span c.args.self.now.row.size c.args.n)) × (span_after c.take_some-came.result c.in_ok-added.added ≡ wanted c)
     × (given_by c.take_some-came.result c.in_ok-added.added ≡ opening c.args.span c.args.self.now.row.size c.args.n)
-opens c =
-    let was : c.in_ok-added.added ≡ all_free c.args.span c.args.self.now.row.size = search rules in
-    opened-all c.args.span c.args.self.now.row.size c.args.n c.take_some-came.result c.in_ok-added.added was c.take_some-came.ensures.count
+opens c = grind (arith, opened-all c.args.span c.args.self.now.row.size c.args.n c.take_some-came.result c.in_ok-added.added)
 
 new : (c : goal.After-insert_reserved) → c.take_some-came.new.span ≡ wanted c
 new c = c.take_some-came.ensures.span ∙ (opens c).1
 
 filled : (c : goal.After-insert_reserved) → IsFilled c.self.inside.slots.slots c.insert_reserved.new.self.slots c.vacant_key-slot.result c.take_some-came.new.span
-filled c =
-    let slot : c.insert_reserved.result ≡ c.vacant_key-slot.result = c.insert_reserved.ensures.key ∙ sym c.vacant_key-slot.ensures.value in
-    let same : c.make_room.new.slots.slots ≡ c.self.inside.slots.slots = c.in_ok-make_room.ensures.slots in
-    record {
-      vacant = ap (λ xs. slot_at xs c.vacant_key-slot.result) (sym same) ∙ c.vacant_key-slot.ensures.vacant;
-      has = ap (slot_at c.insert_reserved.new.self.slots) (sym slot) ∙ c.insert_reserved.ensures.updates.changed;
-      others = λ m other. c.insert_reserved.ensures.updates.others m (λ same. other (same ∙ slot)) ∙ ap (λ xs. slot_at xs m) same;
-    }
+filled c = grind (arith, c.insert_reserved.ensures.updates.others)
 
 -- it has a page, and no span begins where it does
 page : (c : goal.After-insert_reserved) → 0 < c.take_some-came.new.span.span.pages
@@ -71,23 +61,13 @@ added c =
     ap (central_of c.self.inside.row) (spans c) ∙ ap (λ s. central_of c.self.inside.row (with_span s (old c))) (new c) ∙ ap (λ t. central_of t.row (with_span (wanted c) t.spans)) c.self.view_is
 
 of_row : (c : goal.After-insert_reserved) → IsOfRow c.args.self.now.row (wanted c)
-of_row c =
-    let sizes : c.args.self.now.row.size < 2 ^ 32 = search rules in
-    let first : c.args.span.first.0 < 2 ^ 32 = search rules in
-    let pages : c.args.self.now.row.pages ≤ 255 = search rules in
-    IsOfRow-opened c.args.self.now.row c.args.span c.args.n (before c).some sizes (before c).fits first pages c.requires.pages c.requires.some
+of_row c = grind (arith, IsOfRow-opened c.args.self.now.row c.args.span c.args.n (before c).some, before c)
 
 sound : (c : goal.After-insert_reserved) → IsSound (central_of c.self.inside.row (spans_of c.insert_reserved.new.self.slots c.insert.new.self.entries))
 sound c = subst IsSound (sym (added c)) (IsSound-with_span (before c) (wanted c) (of_row c) c.requires.apart)
 
 pub invariant_of-self-2 : goal.invariant_of-self-2
-invariant_of-self-2 c =
-    let s : SpanState = c.take_some-came.new.span in let grown : List Standing = c.make_room.new.ranking in let k = c.vacant_key-slot.result in
-    let slot : k < length grown = omega (arith, c.vacant_key-slot.ensures.value, c.in_ok-make_room.ensures.slot) in
-    let ranked = c.set.ensures ∙ ap (set grown k) c.standing_of.ensures in
-    let P : List (ℕ × ℕ) × List Standing → Type 0 = λ z. IsKept c.insert_reserved.new.self.slots z.0 z.1 in
-    let kept = IsKept-insert c.self.invariant.1 (filled c) grown c.in_ok-make_room.ensures.standings c.in_ok-make_room.ensures.longer slot in
-    (sound c, subst P (λ i. (sym (entries c) i, sym ranked i)) kept)
+invariant_of-self-2 c = grind (arith, IsKept-insert c.self.invariant.1 (filled c), filled c, sound c, entries c)
 
 pub returns-clause-spans : goal.returns-clause-spans
 returns-clause-spans c = added c
@@ -107,10 +87,7 @@ returns-clause-any c =
     omega (arith, (opens c).0, length-opening c.args.span c.args.self.now.row.size c.args.n, c.requires.some, objects)
 
 pub returns-clause-moves : goal.returns-clause-moves
-returns-clause-moves c = λ test.
-    let was : c.in_ok-added.added ≡ all_free c.args.span c.args.self.now.row.size = search rules in
-    let free : SpanState → ℕ = λ s. count_by test (free_objects s) in
-    omega (arith, c.take_some-came.ensures.moves test, ap free (new c), ap free was, ap (λ t. count_by test (free_in t.spans)) (added c), count-with_span test c.args.self.now.spans (wanted c))
+returns-clause-moves c = grind (arith, new, added, count-with_span)
 
 pub returns-clause-given : goal.returns-clause-given
 returns-clause-given c =
@@ -118,9 +95,7 @@ returns-clause-given c =
     subst (λ (t : Central). All (IsTakenIn t.spans) objects) (sym (added c)) (opening-taken c.args.self.now.spans c.args.span c.args.self.now.row.size c.args.n)
 
 pub returns-clause-fresh : goal.returns-clause-fresh
-returns-clause-fresh c = λ k d within.
-    let a = get_or (opening c.args.span c.args.self.now.row.size c.args.n) k d in
-    fresh-apart (before c) (wanted c) a (of_row c).cut (opening-is_taken c.args.span c.args.self.now.row.size c.args.n k d within) c.requires.apart
+returns-clause-fresh c = grind (arith, fresh-apart (before c) (wanted c), before c, of_row c, opening-is_taken c.args.span c.args.self.now.row.size c.args.n)
 
 pub returns-clause-different : goal.returns-clause-different
 returns-clause-different c = opening-different c.args.span c.args.self.now.row.size c.args.n (before c).some

@@ -36,9 +36,7 @@ loop-object-preserved c =
     let next = λ (more : Contents SpanRef) (items : more.items ≡ was.items ++ gone) (room : length more.items + more.spare ≡ length was.items + was.spare).
     IsPutting-more so_far c.put_one.new.self more a gone c.requires.different c.loop-object-test.true read row spans one.freed items room (at_most_one c.put_one.result) one.sound one.kept one.moves in
     elim c.match-put_one.branch [
-      | in-Some w ↦
-          (let long = length-append {A = SpanRef} c.loop-object.freed.items (w.in-Some.span ∷ []) in
-          rw w.freed-is (next w.push.new.self (rw w.in-Some.is w.push.ensures.items) (omega (arith, ap length w.push.ensures.items, long, w.push.ensures.spare))))
+      | in-Some w ↦ grind (arith, length-append {A = SpanRef} c.loop-object.freed.items (w.in-Some.span ∷ []), next w.push.new.self)
       | in_default w ↦ rw w.freed-is (next c.loop-object.freed (rw (w.in_default.is, append-nil) refl) refl)
     ]
 

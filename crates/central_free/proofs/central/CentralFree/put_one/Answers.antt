@@ -1,16 +1,16 @@
-use Rattle.std.proofs.Common.{◌≡◌, ◌+◌, ℕ, List, Option, Some, None, [], ◌∷◌, set, count_by, sym, ◌∙◌, ap, subst}
+use Rattle.std.proofs.Common.{◌≡◌, ◌+◌, List, Some, None, [], ◌∷◌, set, count_by, sym, ◌∙◌, ap, subst}
 use Rattle.std.proofs.lemmas.Option.{same_Some}
 use Rattle.std.proofs.lemmas.List.{set-set}
 use Rattle.std.proofs.lemmas.Bool.{both_ways}
-use Rattle.std.specs.List.{flat_map, remove}
+use Rattle.std.specs.List.{remove}
 use Rattle.std.specs.Map.{remove_entry}
 use Rattle.std.specs.BTreeMap.{is_at}
 use Rattle.std.specs.Ordering.{nat_cmp}
-use Rattle.span_list.specs.Span.{SpanState, taken_count, objects_of, first_byte}
+use Rattle.std.proofs.Common.{arith}
+use Rattle.span_list.specs.Span.{SpanState, taken_count, first_byte}
 use Rattle.tc_units.specs.declared.spans.ClassRow.{ClassRow}
-use Rattle.central_free.specs.declared.ranking.Standing.{Standing}
 use Rattle.central_free.specs.Central.{Central, put_one, IsTakenIn, free_in}
-use Rattle.central_free.specs.Slots.{spans_of, IsKept}
+use Rattle.central_free.specs.Slots.{spans_of}
 use Rattle.central_free.proofs.SlotFacts.{slot_at-set, spans_of-set, IsKept-set, entry_gone, spans_of-remove, IsKept-remove}
 use Rattle.central_free.proofs.PutFacts.{IsFound, some_begun, slot_found, remove-set, IsPutOne, IsPutOne-stays, IsPutOne-leaves}
 use Rattle.central_free.proofs.central.CentralFree.put_one.Goals as goal
@@ -66,10 +66,7 @@ gone c =
 
 -- its pages, and what is kept of it no more
 pages : (c : goal.After-set) → c.span-left.result ≡ c.index_mut.result.now.span
-pages c =
-    let s : SpanState = c.index_mut.result.now in let t : SpanState = c.put.new.self in
-    let same : c.remove.result ≡ t = same_Some c.remove.result t (sym c.remove.ensures.value ∙ slot_at-set c.self.inside.slots.slots c.last_begun-slot.result s t c.index_mut.ensures.value) in
-    c.span-left.ensures ∙ ap (λ s. s.span) same ∙ ap (λ s. s.span) c.put.ensures.after
+pages c = grind (arith, same_Some, slot_at-set)
 
 entries_left : (c : goal.After-set) → c.remove-then-put.new.self.entries ≡ remove c.self.inside.order.entries (gone c).at
 entries_left c =
@@ -87,10 +84,7 @@ left c =
     IsPutOne-leaves at.place s t (sym (at.stands.span s)) c.put.ensures.after sound c.put.ensures.kept c.put.ensures.moves _ _ (c.put.ensures.all.0 c.if-put.true) is (pages c)
 
 pub invariant_of-self : goal.invariant_of-self
-invariant_of-self c =
-    let ranked = c.set.ensures ∙ ap (set c.self.inside.ranking c.last_begun-slot.result) c.none.ensures in
-    let P : List (Option SpanState) × List (ℕ × ℕ) × List Standing → Type 0 = λ z. IsKept z.0 z.1 z.2 in
-    ((left c).sound, subst P (λ i. (sym (slots_left c) i, sym (entries_left c) i, sym ranked i)) (IsKept-remove c.self.invariant.1 (gone c).stands))
+invariant_of-self c = grind (arith, left c, slots_left c, entries_left c, IsKept-remove c.self.invariant.1 (gone c).stands, gone c)
 
 pub returns-then-put-clause-spans : goal.returns-then-put-clause-spans
 returns-then-put-clause-spans c =
@@ -106,7 +100,4 @@ pub returns-then-put-clause-kept : goal.returns-then-put-clause-kept
 returns-then-put-clause-kept c = λ b there differ. (left c).kept b (subst (λ (t : Central). IsTakenIn t.spans b) (sym c.self.view_is) there) differ
 
 pub returns-then-put-clause-moves : goal.returns-then-put-clause-moves
-returns-then-put-clause-moves c = λ test.
-    let gone : ClassRow → ℕ = λ row. count_by test (flat_map (objects_of row.size) (c.span-left.result ∷ [])) in
-    ap (λ t. count_by test (free_in (spans_of c.remove.new.self.slots c.remove-then-put.new.self.entries)) + gone t.row) (sym c.self.view_is)
-    ∙ (left c).moves test ∙ ap (λ t. count_by test (free_in t.spans) + count_by test (c.args.object ∷ [])) c.self.view_is
+returns-then-put-clause-moves c = grind (arith, left c)

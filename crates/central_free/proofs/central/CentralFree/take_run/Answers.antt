@@ -1,11 +1,11 @@
-use Rattle.std.proofs.Common.{◌≡◌, ◌<◌, ℕ, List, ◌++◌, length, get_or, set, count_by, Some, sym, ◌∙◌, ap, subst, arith}
+use Rattle.std.proofs.Common.{◌≡◌, ◌<◌, ℕ, List, ◌++◌, length, get_or, set, Some, sym, ◌∙◌, ap, subst, arith}
 use Rattle.std.specs.Prelude.{All}
 use Rattle.std.proofs.lemmas.List.{get_or-set_same, length-set}
 use Rattle.std.proofs.lemmas.Option.{same_Some}
 use Rattle.tc_units.specs.declared.units.Addr.{Addr}
 use Rattle.tc_units.specs.declared.spans.ClassRow.{ClassRow}
 use Rattle.span_list.specs.Span.{SpanState, IsCut}
-use Rattle.central_free.specs.Central.{Central, taken, taken_one, taken_one_from, IsSound, IsTakenIn, AreDifferent, free_in}
+use Rattle.central_free.specs.Central.{Central, taken, taken_one, taken_one_from, IsSound, IsTakenIn, AreDifferent}
 use Rattle.central_free.specs.Runs.{span_after, given_by}
 use Rattle.central_free.specs.Slots.{spans_of}
 use Rattle.central_free.proofs.ChoiceFacts.{chosen_none, no_free-weight}
@@ -111,8 +111,4 @@ returns-clause-kept c = λ a there.
     subst (λ (xs : List SpanState). IsTakenIn xs a) (sym (after c)) (kept-set (old c) j s c.take_some-came.new.span a at.listed (sym (at.span s)) (c.take_some-came.ensures.kept a) was)
 
 pub returns-clause-moves : goal.returns-clause-moves
-returns-clause-moves c = λ test.
-    let (j, at) = standing c in let s : SpanState = c.index_mut.result.now in
-    let same = ap (λ t. count_by test (free_in t.spans)) c.self.view_is in
-    let one = count-set test (old c) j s c.take_some-came.new.span at.listed (sym (at.span s)) in
-    omega (arith, ap (λ xs. count_by test (free_in xs)) (after c), one, c.take_some-came.ensures.moves test, same)
+returns-clause-moves c = grind (arith, standing c, count-set, after c, c.take_some-came.ensures.moves)

@@ -14,9 +14,7 @@ leaves old now few same size =
     ap (λ ns. take (length ns - few) (drop few ns)) same ∙ take_all (length old - few) (drop few old) (omega (arith, length-drop few old))
 
 pub write_leaves-requires-clause-room : goal.write_leaves-requires-clause-room
-write_leaves-requires-clause-room c =
-    let few = c.self.inside.slots in let cut = length-take (length c.deref.result.now - few) (drop few c.deref.result.now) in
-    omega (arith, c.requires, ap length c.self.view_is, length-standings_of few c.self.inside.nodes.items, c.deref.ensures.len, c.self.invariant.0, cut, length-drop few c.deref.result.now)
+write_leaves-requires-clause-room c = grind (arith, length-take, length-standings_of, length-drop)
 
 pub returns-clause-slots : goal.returns-clause-slots
 returns-clause-slots c = length-standings_of c.args.slots _
