@@ -7,6 +7,7 @@ use Rattle.std.proofs.lemmas.List.{same_lists, get_or_default, length-map, get_o
 use Rattle.std.proofs.lemmas.List.FromFn.{length-map-range_with_len, get_or-map-range_with_len, length-enumerate_from, get_or-enumerate_from}
 use Rattle.std.proofs.lemmas.List.Elements.{All-head, All-tail}
 use Rattle.std.proofs.lemmas.List.Sums.{sum_by-cons, count_by-le-length}
+use Rattle.std.proofs.lemmas.Bool.Decides.{nat_tests}
 use Rattle.heap_rules.specs.Heap.{Heap, Hugepage, hugepage, numbers, untouched, each, is_used, is_filler, backs, pages_of, backed_count, backed_pages}
 use Rattle.heap_rules.specs.Numbered.{at_number}
 use Rattle.heap_rules.specs.Settle.{unbacked}
@@ -20,25 +21,12 @@ use Rattle.heap_rules.proofs.Places.{at, at-next}
 -- a sum over the elements that pass
 pub sum-filter : {X : Type 0} (f : X → ℕ) (p : X → Bool) (xs : List X) → sum_by f (filter p xs) ≡ sum_by (λ x. cond (p x) (f x) 0) xs
 sum-filter f p [] = refl
-sum-filter f p (x ∷ xs) =
-    let rest = sum-filter f p xs in
-    let a = sum_by-cons f x (filter p xs) in
-    let b = sum_by-cons (λ y. cond (p y) (f y) 0) x xs in
-    (elim (p x) as (λ b. sum_by f (cond b (x ∷ filter p xs) (filter p xs)) ≡ cond b (f x) 0 + sum_by (λ y. cond (p y) (f y) 0) xs) [
-      | true ↦ omega arith
-      | false ↦ omega arith
-    ]) ∙ sym b
+sum-filter f p (x ∷ xs) = grind (arith, sum-filter f p xs, sum_by-cons f x (filter p xs), sum_by-cons (λ y. cond (p y) (f y) 0) x xs, p x, f x)
 
 -- sums that agree place by place, as two that add up to a third
 pub sum-adds : {X : Type 0} (f g k : X → ℕ) (xs : List X) → All (λ x. f x + g x ≡ k x) xs → sum_by f xs + sum_by g xs ≡ sum_by k xs
 sum-adds f g k [] h = refl
-sum-adds f g k (x ∷ xs) h =
-    let head : f x + g x ≡ k x = All-head (λ y. f y + g y ≡ k y) x xs h in
-    let rest = sum-adds f g k xs (All-tail (λ y. f y + g y ≡ k y) x xs h) in
-    let a = sum_by-cons f x xs in
-    let b = sum_by-cons g x xs in
-    let c = sum_by-cons k x xs in
-    omega arith
+sum-adds f g k (x ∷ xs) h = grind (arith, sum-adds f g k xs (All-tail (λ y. f y + g y ≡ k y) x xs h), All-head, All-tail, sum_by-cons)
 
 pub sum-map' : {X Y : Type 0} (f : Y → ℕ) (v : X → Y) (xs : List X) → sum_by f (map v xs) ≡ sum_by (λ x. f (v x)) xs
 sum-map' f v [] = refl
@@ -58,9 +46,7 @@ by_numbers f xs =
     ∙ sym (get_or-map-range_with_len g 1 (length xs) k (1 + k) d short refl))
 
 pub self : (xs : List Hugepage) → xs ≡ map (at xs) (range_with_len 1 (length xs))
-self xs =
-    let count = length-map-range_with_len (at xs) 1 (length xs) in
-    same_lists _ _ (sym count) (λ k d l. get_or_default xs k d untouched l ∙ sym (at-next xs k) ∙ sym (get_or-map-range_with_len (at xs) 1 (length xs) k (1 + k) d l refl))
+self xs = grind (arith, length-map-range_with_len, same_lists, get_or_default, at-next, get_or-map-range_with_len)
 
 -- the backed pages of a hugepage, over the numbers of its pages
 pub own_backs : (h : ℕ) (x : Hugepage) → length x.backed ≡ 256 → x.backed ≡ map (backs x) (pages_of h)
@@ -99,28 +85,16 @@ change_counts heap change gives gave =
 
 pub same_sums : {X : Type 0} (f g : X → ℕ) (xs : List X) → All (λ x. f x ≡ g x) xs → sum_by f xs ≡ sum_by g xs
 same_sums f g [] h = refl
-same_sums f g (x ∷ xs) h =
-    let head : f x ≡ g x = All-head (λ y. f y ≡ g y) x xs h in
-    omega (arith, sum_by-cons f x xs, sum_by-cons g x xs, same_sums f g xs (All-tail (λ y. f y ≡ g y) x xs h))
+same_sums f g (x ∷ xs) h = grind (arith, same_sums f g xs (All-tail (λ y. f y ≡ g y) x xs h), All-head, sum_by-cons, All-tail)
 
 -- The pages of each step of a release.
 pub scaled : {X : Type 0} (p : X → Bool) (xs : List X) → sum_by (λ x. cond (p x) 256 0) xs ≡ 256 * count_by p xs
 scaled p [] = refl
-scaled p (x ∷ xs) =
-    let a = sum_by-cons (λ y. cond (p y) 256 0) x xs in
-    let b = sum_by-cons (λ y. cond (p y) 1 0) x xs in
-    let rest = scaled p xs in
-    let c : cond (p x) 256 0 ≡ 256 * cond (p x) 1 0 = elim (p x) as (λ b. cond b 256 0 ≡ 256 * cond b 1 0) [ true ↦ refl | false ↦ refl ] in
-    omega arith
+scaled p (x ∷ xs) = grind (arith, scaled p xs, sum_by-cons (λ y. cond (p y) 256 0) x xs, sum_by-cons (λ y. cond (p y) 1 0) x xs, p x)
 
 pub all_counted : (xs : List Bool) → list_all (λ b. b) xs ≡ true → count_by (λ b. b) xs ≡ length xs
 all_counted [] e = refl
-all_counted (x ∷ xs) e =
-    let parts : (x ≡ true) × (list_all (λ b. b) xs ≡ true) = and_parts x (list_all (λ b. b) xs) e in
-    let rest : count_by (λ b. b) xs ≡ length xs = all_counted xs parts.1 in
-    let a : count_by (λ b. b) (x ∷ xs) ≡ cond x 1 0 + count_by (λ b. b) xs = sum_by-cons (λ b. cond b 1 0) x xs in
-    let one : ◌≡◌ {A = ℕ} (cond x 1 0) 1 = one-true x parts.0 in
-    omega arith
+all_counted (x ∷ xs) e = grind (arith, nat_tests, all_counted xs, sum_by-cons (λ b. cond b 1 0) x xs, one-true x)
 
 nested : (f : SpareRow → ℕ) (p : SpareRow → Bool) (v : ℕ → SpareRow) (q : ℕ → Bool) (xs : List ℕ)
     → sum_by f (filter p (map v (filter q xs))) ≡ sum_by (λ x. cond (q x && p (v x)) (f (v x)) 0) xs
@@ -129,12 +103,7 @@ nested f p v q (x ∷ xs) =
     let rest = nested f p v q xs in
     let others : List SpareRow = filter p (map v (filter q xs)) in
     let count : ℕ → ℕ = λ y. cond (q y && p (v y)) (f (v y)) 0 in
-    (elim (q x) as (λ t. sum_by f (filter p (map v (cond t (x ∷ filter q xs) (filter q xs)))) ≡ cond (t && p (v x)) (f (v x)) 0 + sum_by count xs) [
-      | false ↦ omega arith
-      | true ↦
-          (let a = sum_by-cons f (v x) others in
-          elim (p (v x)) as (λ t. sum_by f (cond t (v x ∷ others) others) ≡ cond t (f (v x)) 0 + sum_by count xs) [ true ↦ omega arith | false ↦ omega arith ])
-    ]) ∙ sym (sum_by-cons count x xs)
+    grind (arith, q x, p (v x), v x, f (v x), sum_by-cons f (v x) others, sum_by-cons count x xs)
 
 pub whole_counts : (flags : List Bool) (heap : Heap) (n : ℕ)
     → ((h : ℕ) → 1 ≤ h → h < 1 + length heap.hugepages → at_number false flags h ≡ true → backed_count (hugepage heap h) ≡ 256) → backed_pages (whole_given flags heap n).heap + (whole_given flags heap n).pages ≡ backed_pages heap
@@ -165,10 +134,7 @@ spare_counts heap n size =
 -- all places are used exactly where their number is used
 all_or_fewer : (row : List Bool) → (list_all (λ b. b) row ≡ true → used_count row ≡ length row) × (list_all (λ b. b) row ≡ false → used_count row < length row)
 all_or_fewer [] = ((λ e. refl), (λ e. absurd (false≢true (sym e))))
-all_or_fewer (true ∷ row) =
-    let step = sum_by-cons (λ b. cond b 1 0) true row in
-    let rest = all_or_fewer row in
-    ((λ e. omega (arith, rest.0 e)), (λ e. omega (arith, rest.1 e)))
+all_or_fewer (true ∷ row) = grind (arith, all_or_fewer row, sum_by-cons (λ b. cond b 1 0) true row)
 all_or_fewer (false ∷ row) = grind (arith, count_by-le-length, false≢true, sum_by-cons)
 
 pub whole_exactly : (row : List Bool) (n : ℕ) → length row ≡ n → eqb (used_count row) n ≡ list_all (λ b. b) row

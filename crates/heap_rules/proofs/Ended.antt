@@ -6,15 +6,16 @@ use Rattle.std.proofs.lemmas.Bool.{cases_Bool, and_from, and_parts, and_left, an
 use Rattle.std.proofs.lemmas.List.Elements.{All-head, All-tail, All-filter, All-contains, filter_passes, Contains-get_or}
 use Rattle.std.proofs.lemmas.List.Folds.{Any-from_list_any, list_any_at}
 use Rattle.std.proofs.lemmas.List.FromFn.{length-map-range_with_len, get_or-map-range_with_len}
+use Rattle.std.proofs.lemmas.Bool.Decides.{nat_tests}
 use Rattle.tc_units.specs.declared.spans.Run.{Run}
 use Rattle.tc_units.specs.declared.rows.RowKind.{RowKind}
 use Rattle.tc_units.specs.declared.rows.RowKind.TheVariants as kind
-use Rattle.heap_rules.specs.Heap.{Heap, Hugepage, hugepage, each, holds, reaches, is_used, is_region, is_kind_region, spans, used_from, region_row}
+use Rattle.heap_rules.specs.Heap.{Heap, Hugepage, hugepage, reaches, is_used, is_region, is_kind_region, spans, used_from, region_row, holds}
 use Rattle.heap_rules.specs.Free.{left, used_regions, without_unused_regions, given_back}
 use Rattle.heap_rules.specs.Sound.{IsHugepageOf, HasNoUsed, LiesInRegion, Serves, IsRegion, AreRunsSound, IsSound}
 use Rattle.heap_rules.specs.Laws.{FreeLeaves}
 use Rattle.heap_rules.proofs.Live.{count-filter_le, Contains-filter, filter_holds}
-use Rattle.heap_rules.proofs.Fits.{holds_reaches, spans_parts, spans_from, serves_at, is_Region}
+use Rattle.heap_rules.proofs.Fits.{holds_reaches, spans_parts, serves_at, is_Region, spans_from}
 use Rattle.heap_rules.proofs.Remade.{AreRemade, same_runs, remade_sound, region_kinds}
 use Rattle.heap_rules.proofs.Settled.{settled_sound, remade_not}
 use Rattle.heap_rules.proofs.Left.{left_runs, left_kinds, used_rest, same_member}
@@ -33,17 +34,7 @@ pub record HasUsedIn (runs : List Run) (first many : ℕ) : Type 0 where
   pub used : is_used runs page ≡ true
 
 pub used_range : (runs : List Run) (first many : ℕ) → list_any (λ b. b) (used_from runs first many) ≡ true → HasUsedIn runs first many
-used_range runs first many e =
-    let any = Any-from_list_any (λ b. b) (used_from runs first many) e in
-    let k : ℕ = any.0 in
-    let len = length-map-range_with_len (is_used runs) first many in
-    let at : get_or (used_from runs first many) k any.1 ≡ any.1 = any.3 in
-    record {
-      page = first + k;
-      from = omega arith;
-      to = omega (arith, any.2);
-      used = sym (get_or-map-range_with_len (is_used runs) first many k (first + k) any.1 (omega (arith, any.2)) refl) ∙ at ∙ any.4;
-    }
+used_range runs first many e = grind (arith, Any-from_list_any, length-map-range_with_len, get_or-map-range_with_len)
 
 module _ (heap : Heap) (sound : AreRunsSound heap) (places : (r : ℕ) → Contains heap.regions r → (0 < r) × (r + heap.config.region ≤ heap.config.huge + 1))
     (kinds : (r : ℕ) → Contains heap.regions r → (h : ℕ) → spans heap.config.region h r ≡ true → is_region (hugepage heap h) ≡ true) where
@@ -80,10 +71,7 @@ module _ (heap : Heap) (sound : AreRunsSound heap) (places : (r : ℕ) → Conta
 
   -- what serves a region lies in one that is left
   serves_kept : (h : ℕ) (x : Hugepage) (k : RowKind) → (is_kind_region k && not (stays h)) ≡ false → Serves heap.runs heap.regions width h x k → Serves heap.runs kept width h x k
-  serves_kept h x kind.Region e s =
-      let any = Any-from_list_any (spans width h) kept (not-false (stays h) e) in
-      (record { region = any.1; known = (any.0, any.2, any.3); spanned = any.4 }, s.1)
-  serves_kept h x k e s = s
+  serves_kept h x k e s = grind (arith, Any-from_list_any, not-false)
 
   ended_each : AreRemade heap heap.runs kept change
   ended_each h is = grind (arith, and_parts, cases_Bool, false≢true, is_Region, none_kept, not-true, remade_not, serves_at, serves_kept)
@@ -94,19 +82,7 @@ module _ (heap : Heap) (sound : AreRunsSound heap) (places : (r : ℕ) → Conta
       let known : Contains heap.regions r = All-filter has_used (Contains heap.regions) heap.regions (λ i c j. Contains-get_or heap.regions i c j) k d l in
       let place = places r known in
       let has = used_range heap.runs (256 * r) (256 * width) (filter_passes has_used heap.regions k d l) in
-      record {
-        from = place.0;
-        to = place.1;
-        kinds = region_kinds heap heap.runs kept change heap.counts sound r place.0 place.1
-            (λ h e. (let x = hugepage heap h in
-            let there = list_any_at (spans width h) kept k d l e in
-            let no_end : (is_region x && not (stays h)) ≡ false = and_right _ _ (not_from_true _ there) in
-            subst (λ b. is_region (cond b (freed_page x) x) ≡ true) (sym no_end) (kinds r known h e)));
-        page = has.page;
-        own = has.from;
-        own_to = has.to;
-        used = has.used;
-      }
+      grind (arith, region_kinds heap heap.runs kept change heap.counts sound r place.0 place.1, list_any_at, and_right, not_from_true)
 
   pub ended_sound : IsSound (without_unused_regions heap)
   ended_sound = record {
@@ -123,9 +99,7 @@ given_back_sound heap run sound live =
 
 filter_all : {X : Type 0} (p : X → Bool) (xs : List X) → All (λ x. p x ≡ true) xs → filter p xs ≡ xs
 filter_all p [] h = refl
-filter_all p (x ∷ xs) h =
-    let head : p x ≡ true = All-head (λ y. p y ≡ true) x xs h in
-    ap (λ b. cond b (x ∷ filter p xs) (filter p xs)) head ∙ ap (λ ys. x ∷ ys) (filter_all p xs (All-tail (λ y. p y ≡ true) x xs h))
+filter_all p (x ∷ xs) h = grind (arith, filter_all p xs (All-tail (λ y. p y ≡ true) x xs h), All-head, All-tail)
 
 -- whether a region has a used page
 abbrev some_used : Heap → ℕ → Bool
@@ -138,22 +112,20 @@ module _ (heap : Heap) (run : Run) (sound : IsSound heap) (live : Contains heap.
       let now = left heap run in
       let runs = left_runs heap run sound live in
       let width : ℕ = heap.config.region in
-      let ends : ℕ → Hugepage → Bool = λ h x. is_region x && not (list_any (spans width h) (used_regions now)) in
-      let f : ℕ → Hugepage → Hugepage = λ h x. cond (ends h x) (record x { kind = kind.Free }) x in
-      let stay : used_regions now ≡ heap.regions =
-      filter_all (some_used now) heap.regions (λ k d l. still (get_or heap.regions k d) (Contains-get_or heap.regions k d l)) in
-      let stays : (h : ℕ) → 0 < h → h ≤ length now.hugepages → ends h (hugepage now h) ≡ false = (λ h some l. (let x = hugepage now h in
-      elim (cases_Bool (is_region x)) [
-        | inr no_region ↦ and_left (is_region x) _ no_region
-        | inl region ↦
-            (let arena = runs.arena in
-            let fit = runs.fit h (record { from = some; to = omega arith }) in
-            let lies = (serves_at now.runs heap.regions width h x kind.Region (is_Region x.kind region) fit).0 in
-            let there = list_any_at (spans width h) heap.regions lies.known.0 lies.region lies.known.1 (ap (spans width h) lies.known.2 ∙ lies.spanned) in
-            and_right (is_region x) _ (ap (λ rs. not (list_any (spans width h) rs)) stay ∙ ap not there))
-      ])) in
-      ap (λ (rs : List ℕ). record now { regions = rs; hugepages = each f now.hugepages }) stay ∙ ap (λ (xs : List Hugepage). record now { hugepages = xs })
-      (each_is f now.hugepages now.hugepages refl (λ h some l. ap (λ b. cond b (record (hugepage now h) { kind = kind.Free }) (hugepage now h)) (stays h some l)))
+      grind (
+        arith,
+        nat_tests,
+        filter_all (some_used now) heap.regions (λ k d l. still (get_or heap.regions k d) (Contains-get_or heap.regions k d l)),
+        still,
+        Contains-get_or heap.regions,
+        and_left,
+        runs.fit,
+        serves_at now.runs heap.regions width,
+        is_Region,
+        list_any_at,
+        and_right,
+        each_is,
+      )
 
   -- It is so where the run reaches no region.
   pub all_used : ((h : ℕ) → reaches h run ≡ true → is_region (hugepage heap h) ≡ false) → (r : ℕ) → Contains heap.regions r → some_used (left heap run) r ≡ true
@@ -181,12 +153,7 @@ module _ (heap : Heap) (first : ℕ) (sound : AreRunsSound heap) (listed : Conta
       let arena = sound.arena in
       let own : IsHugepageOf heap.config.huge h = record { from = some; to = omega arith } in
       let lies : LiesInRegion heap.regions width' h = (serves_at heap.runs heap.regions width' h x kind.Region (is_Region x.kind region) (sound.fit h own)).0 in
-      elim (cases_Bool (some_used heap lies.region)) [
-        | inl used ↦
-            (let has = filter_holds (some_used heap) heap.regions lies.region lies.known used in
-            false≢true (sym none ∙ list_any_at (spans width' h) (used_regions heap) has.0 lies.region has.1 (ap (spans width' h) has.2 ∙ lies.spanned)))
-        | inr unused ↦ (let same = alone lies.region lies.known unused in false≢true (sym away ∙ ap (spans width' h) (sym same) ∙ lies.spanned))
-      ]
+      grind (arith, nat_tests, filter_holds (some_used heap) heap.regions lies.region lies.known, list_any_at (spans width' h) (used_regions heap))
 
   -- the hugepages of the region that ends are those of no region that has a used page
   pub ended : (h : ℕ) → 0 < h → h ≤ length heap.hugepages → (spans width' h first ≡ true → is_region (hugepage heap h) ≡ true)

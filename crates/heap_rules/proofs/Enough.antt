@@ -1,11 +1,12 @@
 -- A release answers at least what is asked exactly where so many pages may be given.
 use Rattle.std.proofs.Common.{◌≡◌, ℕ, zero, suc, ◌+◌, ◌-◌, ◌*◌, ◌<◌, ◌≤◌, ◌⊎◌, Bool, true, false, not, ◌&&◌, ◌||◌, ◌==◌, cond, List, length}
-use Rattle.std.proofs.Common.{get_or, map, filter, count_by, sum_by, replicate, refl, sym, ap, subst, ◌∙◌, inl, inr, arith}
-use Rattle.std.specs.List.{list_all, range_with_len}
-use Rattle.std.proofs.lemmas.Bool.{and_parts, and_right, eqb-true}
+use Rattle.std.proofs.Common.{get_or, map, filter, count_by, sum_by, replicate, refl, sym, ap, subst, ◌∙◌, arith}
+use Rattle.std.specs.List.{list_all}
+use Rattle.std.proofs.lemmas.Bool.{and_right, eqb-true}
 use Rattle.std.proofs.lemmas.List.{length-map, get_or-replicate, length-replicate}
 use Rattle.std.proofs.lemmas.List.Folds.{list_all_at}
 use Rattle.std.proofs.lemmas.List.FromFn.{length-map-range_with_len, get_or-map-range_with_len}
+use Rattle.std.proofs.lemmas.Bool.Decides.{nat_tests}
 use Rattle.tc_units.specs.declared.spans.Run.{Run}
 use Rattle.tc_units.specs.declared.rows.RowKind.{RowKind}
 use Rattle.tc_units.specs.declared.rows.RowKind.TheVariants as kind
@@ -86,9 +87,7 @@ region_parts false all spare same = refl
 
 parts_of : (runs : List Run) (regions : List ℕ) (width h : ℕ) (x : Hugepage) (k : RowKind) → x.kind ≡ k → IsFit runs regions width h x
     → free_part h x + (idle_part runs h x + spare_part runs h x) ≡ cond (is_free x || is_filler x || (is_region x && used_count runs h == 0)) (spare_of runs h x) 0
-parts_of runs regions width h x kind.Free e fit =
-    let serves = serves_at runs regions width h x kind.Free e fit in
-    rw e (only_first (cond (list_all (λ b. b) x.backed) 256 0) (spare_of runs h x) (even_spare runs h x fit.size serves.0 serves.1))
+parts_of runs regions width h x kind.Free e fit = grind (arith, serves_at, only_first, even_spare)
 parts_of runs regions width h x kind.Filler e fit = rw e (only_third (spare_of runs h x))
 parts_of runs regions width h x kind.Run e fit = rw e refl
 parts_of runs regions width h x kind.Region e fit =
@@ -119,13 +118,7 @@ whole_keeps : (flags : List Bool) (heap : Heap) (n : ℕ) (part : ℕ → Hugepa
     → total part (whole_given flags heap n).heap ≡ total part heap
 whole_keeps flags heap n part same =
     let f : ℕ → Hugepage → Hugepage = λ h x. cond (gives_whole flags n h) (unbacked x) x in
-    let after : Heap = (whole_given flags heap n).heap in
-    ap (λ m. sum_by (λ h. part h (hugepage after h)) (range_with_len 1 m)) (length-each f heap.hugepages)
-    ∙ same_sums (λ h. part h (hugepage after h)) (λ h. part h (hugepage heap h)) (numbers heap) (λ k d l.
-    let h : ℕ = get_or (numbers heap) k d in
-    let inside = range-within 1 (length heap.hugepages) k d l in
-    ap (part h) (at-each f heap.hugepages h inside.0 (omega (arith, inside.1)))
-    ∙ if_given (gives_whole flags n h) (part h) (hugepage heap h) (λ g. same h inside.0 (omega (arith, inside.1)) (and_parts _ _ g).0))
+    grind (arith, nat_tests, part, length-each f heap.hugepages, same_sums, range-within 1 (length heap.hugepages), at-each f heap.hugepages, if_given, same)
 
 -- a hugepage that is no filler's, or no region's, has none of their parts
 no_spare : (runs : List Run) (h : ℕ) (x : Hugepage) (k : RowKind) → x.kind ≡ k → is_kind_filler k ≡ false → spare_part runs h (unbacked x) ≡ spare_part runs h x
@@ -135,14 +128,10 @@ no_idle : (runs : List Run) (h : ℕ) (x : Hugepage) (k : RowKind) → x.kind �
 no_idle runs h x k e other = let none : is_region x ≡ false = ap is_kind_region e ∙ other in rw none refl
 
 free_kind : (heap : Heap) (h : ℕ) → 0 < h → h ≤ length heap.hugepages → at_number false (map is_free_backed heap.hugepages) h ≡ true → (hugepage heap h).kind ≡ kind.Free
-free_kind heap h from to flag =
-    let ready : is_free_backed (hugepage heap h) ≡ true = sym (map-at is_free_backed heap.hugepages h false from to) ∙ flag in
-    is_Free (hugepage heap h).kind (and_parts _ _ ready).0
+free_kind heap h from to flag = grind (arith, nat_tests, map-at, is_Free)
 
 idle_kind : (heap : Heap) (h : ℕ) → 0 < h → h ≤ length heap.hugepages → at_number false (map (is_idle heap) (numbers heap)) h ≡ true → (hugepage heap h).kind ≡ kind.Region
-idle_kind heap h from to flag =
-    let idle : is_idle heap h ≡ true = sym (idle_at heap h from to) ∙ flag in
-    is_Region (hugepage heap h).kind (and_parts _ _ (and_parts _ _ idle).0).0
+idle_kind heap h from to flag = grind (arith, nat_tests, idle_at, is_Region)
 
 -- Each step gives all its part, or as many as are wanted.
 abbrev Gives : ℕ → ℕ → ℕ → Type 0
@@ -172,10 +161,7 @@ spare_gives heap n =
 
 -- So all three do.
 three_steps : (n a b c x y z : ℕ) → Gives n a x → Gives (n - a) b y → Gives (n - (a + b)) c z → (n ≤ a + b + c → n ≤ x + (y + z)) × (n ≤ x + (y + z) → n ≤ a + b + c)
-three_steps n a b c x y z (inr p) second third = (λ l. omega (arith, p.1), λ l. omega (arith, p.0))
-three_steps n a b c x y z (inl e) (inr q) third = (λ l. omega (arith, e, q.1), λ l. omega (arith, q.0))
-three_steps n a b c x y z (inl e) (inl f) (inr r) = (λ l. omega (arith, e, f, r.1), λ l. omega (arith, r.0))
-three_steps n a b c x y z (inl e) (inl f) (inl g) = (λ l. omega (arith, e, f, g, l), λ l. omega (arith, e, f, g, l))
+three_steps n a b c x y z x7 second third = grind (arith)
 
 pub release_is_enough : ReleaseIsEnough
 release_is_enough heap n sound =

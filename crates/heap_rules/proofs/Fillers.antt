@@ -9,11 +9,11 @@ use Rattle.tc_units.specs.declared.spans.Run.{Run}
 use Rattle.tc_units.specs.declared.rows.RowKind.{RowKind}
 use Rattle.tc_units.specs.declared.rows.RowKind.TheVariants as kind
 use Rattle.range_bits.specs.Ranges.{best}
-use Rattle.heap_rules.specs.Heap.{Heap, Hugepage, hugepage, numbers, holds, is_used, is_filler, is_kind_filler, with_run, run_at, backs, used_from}
+use Rattle.heap_rules.specs.Heap.{Heap, Hugepage, hugepage, numbers, holds, is_used, is_filler, is_kind_filler, run_at, backs, used_from}
 use Rattle.heap_rules.specs.FillerRows.{FillerRow, has_room}
 use Rattle.heap_rules.specs.Choice.{filler_row, filler_rows}
 use Rattle.heap_rules.specs.New.{placed, more_backed}
-use Rattle.heap_rules.specs.Sound.{Serves, IsFit, IsSound}
+use Rattle.heap_rules.specs.Sound.{IsFit, IsSound}
 use Rattle.heap_rules.specs.Laws.{IsGiven}
 use Rattle.range_bits.proofs.RangeLemmas.{range-within, best-at, free_fits, free_at}
 use Rattle.heap_rules.proofs.Places.{backs-map}
@@ -79,18 +79,16 @@ module _ (heap : Heap) (n h s : ℕ) (sound : IsSound heap) (some : 0 < n) (is :
 
   turned_own : (x : Hugepage) → is_filler x ≡ true → IsFit heap.runs heap.regions heap.config.region h x → IsTurned heap.runs heap.regions heap.config.region run h x (more_backed run h x)
   turned_own x filler fit =
-      let y = more_backed run h x in
-      let k = is_Filler x.kind filler in
-      record {
-        fit = record {
-          size = length-map-range_with_len (λ page. backs x page || holds page run) (256 * h) 256;
-          serves = subst (Serves (with_run run heap.runs) heap.regions heap.config.region h y) (sym k) (used_more run heap.runs h (serves_at heap.runs heap.regions heap.config.region h x kind.Filler k fit));
-          donated = fit.donated;
-        };
-        held = λ p own e. backs-map (λ page. backs x page || holds page run) h p own ∙ or_right (backs x p) (holds p run) e;
-        kept = λ p own e. backs-map (λ page. backs x page || holds page run) h p own ∙ or_left (backs x p) (holds p run) e;
-        region = λ e. e;
-      }
+      grind (
+        arith,
+        is_Filler x.kind filler,
+        length-map-range_with_len (λ page. backs x page || holds page run) (256 * h) 256,
+        used_more run heap.runs h,
+        serves_at heap.runs heap.regions heap.config.region h x kind.Filler,
+        backs-map (λ page. backs x page || holds page run) h,
+        or_right,
+        or_left,
+      )
 
   pub given_filler : IsGiven heap n (placed heap (256 * h + s) n (more_backed run))
   given_filler =

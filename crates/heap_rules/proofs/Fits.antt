@@ -50,10 +50,7 @@ one_more run runs h has = record { run = has.run; live = Contains-old (λ (r : R
 -- and nothing where they do not reach
 serves_more : (run : Run) (runs : List Run) (regions : List ℕ) (width h : ℕ) (x : Hugepage) (k : RowKind) → reaches h run ≡ false
     → Serves runs regions width h x k → Serves (with_run run runs) regions width h x k
-serves_more run runs regions width h x kind.Free e s = ((λ page own. unused_with run runs page (unreached_unheld h page run own e) (s.0 page own)), s.1)
-serves_more run runs regions width h x kind.Filler e s = used_more run runs h s
-serves_more run runs regions width h x kind.Run e s = (one_more run runs h s.0, s.1)
-serves_more run runs regions width h x kind.Region e s = s
+serves_more run runs regions width h x k e s = grind (arith, unused_with, unreached_unheld, used_more, one_more)
 
 pub fit_more : (run : Run) (runs : List Run) (regions : List ℕ) (width h : ℕ) (x : Hugepage) → reaches h run ≡ false → IsFit runs regions width h x
     → IsFit (with_run run runs) regions width h x

@@ -1,9 +1,10 @@
 -- Giving from the greatest number down, place by place, is a walk that adds up what was given.
-use Rattle.std.proofs.Common.{◌≡◌, ℕ, zero, suc, ◌+◌, ◌-◌, ◌*◌, ◌<◌, ◌≤◌, ◌⊎◌, Bool, false, ◌&&◌, cond, nat_lt, List, length, get_or, drop, count_by, sym}
-use Rattle.std.proofs.Common.{ap, ◌∙◌, inl, inr, arith}
+use Rattle.std.proofs.Common.{◌≡◌, ℕ, zero, suc, ◌+◌, ◌-◌, ◌*◌, ◌<◌, ◌≤◌, ◌⊎◌, Bool, false, cond, List, length, get_or, drop, count_by, sym}
+use Rattle.std.proofs.Common.{ap, ◌∙◌, inl, arith}
 use Rattle.std.specs.List.{range_with_len}
-use Rattle.std.proofs.lemmas.Bool.{cases_Bool, cases_lt, and_left, lt-ltb, le-ltb}
+use Rattle.std.proofs.lemmas.Bool.{and_left}
 use Rattle.std.proofs.lemmas.List.{drop_more, drop_all}
+use Rattle.std.proofs.lemmas.Bool.Decides.{nat_tests}
 use Rattle.heap_rules.specs.GiveUp.{gives_whole}
 use Rattle.heap_rules.proofs.Numbered.{at_number-place}
 use Rattle.tc_units.proofs.Counts.{count-cons, one-true, one-false}
@@ -26,21 +27,13 @@ all_or_enough flags n h (suc m) e =
     let rest = all_or_enough flags n (h + 1) m (omega arith) in
     let flag = step_flag flags h (omega arith) in
     let one = count-cons (gives_whole flags n) (h + 1) (range_with_len (h + 1 + 1) m) in
-    let back : h + 1 - 1 ≡ h = omega arith in
-    let test = ap (λ b. b && nat_lt (flagged_behind flags (h + 1)) n) (at_number-place false flags (h + 1) (omega arith) ∙ ap (λ i. get_or flags i false) back) in
-    elim (cases_Bool (get_or flags h false)) [
-      | inr f ↦
-          (let not_given = one-false (gives_whole flags n (h + 1)) (test ∙ and_left _ _ f) in
-          let not_flag = one-false (get_or flags h false) f in
-          elim rest [ inl same ↦ inl (omega arith) | inr enough ↦ inr (omega arith, omega arith) ])
-      | inl t ↦
-          (let is_flag = one-true (get_or flags h false) t in
-          elim (cases_lt (flagged_behind flags (h + 1)) n) [
-            | inl few ↦
-                (let given = one-true (gives_whole flags n (h + 1)) (test ∙ ap (λ b. b && nat_lt (flagged_behind flags (h + 1)) n) t ∙ lt-ltb (flagged_behind flags (h + 1)) n few) in
-                elim rest [ inl same ↦ inl (omega arith) | inr enough ↦ absurd (omega (arith, enough.1)) ])
-            | inr many ↦
-                (let given = one-false (gives_whole flags n (h + 1)) (test ∙ ap (λ b. b && nat_lt (flagged_behind flags (h + 1)) n) t ∙ le-ltb (flagged_behind flags (h + 1)) n many) in
-                elim rest [ inl same ↦ inr (omega arith, omega arith) | inr enough ↦ inr (omega (arith, enough.0), omega (arith, enough.1)) ])
-          ])
-    ]
+    grind (
+      arith,
+      nat_tests,
+      at_number-place false flags (h + 1),
+      one-false (gives_whole flags n (h + 1)),
+      and_left,
+      one-false (get_or flags h false),
+      one-true (get_or flags h false),
+      one-true (gives_whole flags n (h + 1)),
+    )

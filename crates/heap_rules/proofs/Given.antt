@@ -1,5 +1,5 @@
 -- A new run: what it gives, and that it gives none exactly where none fits.
-use Rattle.std.proofs.Common.{◌≡◌, ℕ, ◌+◌, ◌-◌, ◌*◌, ◌<◌, ◌≤◌, Bool, true, false, not, ◌&&◌, ◌||◌, cond, nat_lt, List, [], length, get_or, filter}
+use Rattle.std.proofs.Common.{◌≡◌, ℕ, ◌+◌, ◌-◌, ◌*◌, ◌<◌, ◌≤◌, Bool, true, false, not, ◌&&◌, ◌||◌, cond, nat_lt, List, [], get_or, filter}
 use Rattle.std.proofs.Common.{All, Contains, Option, Some, None, IfSome, option_map, refl, sym, ap, subst, ◌∙◌, inl, inr, arith}
 use Rattle.std.specs.Prelude.{MatchOption}
 use Rattle.std.specs.List.{list_all}
@@ -10,9 +10,10 @@ use Rattle.std.proofs.lemmas.List.{length-map, get_or-map}
 use Rattle.std.proofs.lemmas.List.Elements.{All-filter, filter_passes, Contains-get_or}
 use Rattle.std.proofs.lemmas.List.Sums.{list_all-from_AllPass}
 use Rattle.std.proofs.lemmas.List.Folds.{list_all_at}
+use Rattle.std.proofs.lemmas.Bool.Decides.{nat_tests}
 use Rattle.range_bits.specs.Ranges.{best, longest, first_least}
 use Rattle.heap_rules.specs.Heap.{Heap, untouched, is_free, used_row, region_row}
-use Rattle.heap_rules.specs.FillerRows.{FillerRow, place_in_row, filler_place}
+use Rattle.heap_rules.specs.FillerRows.{FillerRow, place_in_row}
 use Rattle.heap_rules.specs.FillerRows as filler
 use Rattle.heap_rules.specs.RegionRows.{RegionRow, place_in_region, region_place}
 use Rattle.heap_rules.specs.RegionRows as regions
@@ -36,7 +37,7 @@ abbrev IsAnswer : Heap → ℕ → Bool → Option Placed → Type 0
 IsAnswer heap n none o = MatchOption o (none ≡ true) (λ p. IsGiven heap n p × (none ≡ false))
 
 -- where no element of a list passes, and where one does
-none_pass : {X : Type 0} (p : X → Bool) (xs : List X) → filter p xs ≡ [] → list_all (λ x. not (p x)) xs ≡ true
+pub none_pass : {X : Type 0} (p : X → Bool) (xs : List X) → filter p xs ≡ [] → list_all (λ x. not (p x)) xs ≡ true
 none_pass p xs e = grind (arith, cases_Bool, filter-some, list_all-from_AllPass, not_from_false)
 
 -- a region with room
@@ -52,16 +53,14 @@ pub regions_fit : (heap : Heap) (n : ℕ) → IsSound heap → All (IsRegionWith
 regions_fit heap n sound k d l =
     let row = get_or (filter (regions.has_room n) (region_rows heap)) k d in
     let known = All-filter (regions.has_room n) (Contains (region_rows heap)) (region_rows heap) (Contains-get_or (region_rows heap)) k d l in
-    let len = length-map heap.regions (region_row_of heap) in
-    let short : known.0 < length heap.regions = omega (arith, known.1) in
-    record {
-      number = get_or heap.regions known.0 0;
-      row_is = sym known.2 ∙ get_or-map (region_row_of heap) heap.regions known.0 0 row short;
-      own = Contains-get_or heap.regions known.0 0 short;
-      region = sound.regions known.0 0 short;
-      room = filter_passes (regions.has_room n) (region_rows heap) k d l;
-      known = known;
-    }
+    grind (
+      arith,
+      length-map heap.regions (region_row_of heap),
+      get_or-map (region_row_of heap) heap.regions known.0 0 row,
+      Contains-get_or heap.regions known.0 0,
+      sound.regions known.0 0,
+      filter_passes (regions.has_room n) (region_rows heap) k d l,
+    )
 
 -- Below a hugepage.
 abbrev none_filler : Heap → ℕ → Bool
@@ -98,9 +97,7 @@ module _ (heap : Heap) (n : ℕ) (sound : IsSound heap) (some : 0 < n) where
 
   small_own : (row : FillerRow) → IsRowWithRoom heap n row → (o : Option ℕ) → best row.used n ≡ o
       → IsAnswer heap n (none_small heap n) (by_filler heap n (option_map (λ start. 256 * row.number + start) o))
-  small_own row is None e =
-      let there = best_there row.used n some (leb-true n (longest row.used) is.room) in
-      absurd (none-some there.0 (sym e ∙ there.1))
+  small_own row is None e = grind (arith, nat_tests, best_there row.used n some (leb-true n (longest row.used) is.room), none-some)
   small_own row is (Some s) e =
       let h = is.number in
       let at : row.number ≡ h = ap (λ (r : FillerRow). r.number) is.row_is in
@@ -155,11 +152,7 @@ module _ (heap : Heap) (n : ℕ) (sound : IsSound heap) (some : 0 < n) where
     new_region_by : no_region ≡ true → (o : Option ℕ) → run_choice heap heap.config.region ≡ o → IsAnswer heap n none_beside (option_or (option_map (in_new_region heap n) o) (new_whole heap n))
     new_region_by t None e = given_whole no_region t
     new_region_by t (Some r) e =
-        let are = run_choice_free heap heap.config.region r (omega arith) e in
-        let long = free_long r heap.config.region (omega arith) are in (
-          given_new_region heap r sound are n some fits',
-          and_left _ _ (le-ltb (longest (taken_row heap)) (hugepages_for n) (omega arith)),
-        )
+        grind (arith, nat_tests, run_choice_free heap heap.config.region r, free_long r heap.config.region, given_new_region heap r sound, and_left)
 
     given_beside : no_region ≡ true → IsAnswer heap n none_beside (new_beside_regions heap n)
     given_beside t = grind (arith, given_whole, new_region_by)
@@ -167,9 +160,7 @@ module _ (heap : Heap) (n : ℕ) (sound : IsSound heap) (some : 0 < n) where
     -- what the choice of a region gives
     own_by : (row : RegionRow) → IsRegionWithRoom heap n row → (o : Option ℕ) → best row.used n ≡ o
         → IsAnswer heap n none_beside (by_regions heap n (option_map (λ start. 256 * row.first + start) o))
-    own_by row is None e =
-        let there = best_there row.used n some (leb-true n (longest row.used) is.room) in
-        absurd (none-some there.0 (sym e ∙ there.1))
+    own_by row is None e = grind (arith, nat_tests, best_there row.used n some (leb-true n (longest row.used) is.room), none-some)
     own_by row is (Some s) e =
         let r = is.number in
         let at : row.first ≡ r = ap (λ (x : RegionRow). x.first) is.row_is in

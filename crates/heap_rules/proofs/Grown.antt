@@ -1,8 +1,9 @@
 -- A sound heap with one run more is sound, where each hugepage that the run reaches becomes what it should.
-use Rattle.std.proofs.Common.{◌≡◌, ℕ, ◌+◌, ◌/◌, ◌≤◌, Bool, true, false, cond, List, count_by, All, refl, sym, ap, subst, ◌∙◌, inl, inr, arith}
-use Rattle.std.proofs.lemmas.Bool.{cases_Bool, false≢true}
+use Rattle.std.proofs.Common.{◌≡◌, ℕ, ◌+◌, ◌/◌, ◌≤◌, Bool, true, false, cond, List, count_by, All, refl, sym, ◌∙◌, arith}
+use Rattle.std.proofs.lemmas.Bool.{false≢true}
 use Rattle.std.proofs.lemmas.List.Elements.{All-weaker, All-contains}
 use Rattle.std.proofs.lemmas.List.Folds.{Any-from_list_any}
+use Rattle.std.proofs.lemmas.Bool.Decides.{nat_tests}
 use Rattle.tc_units.specs.declared.spans.Run.{Run}
 use Rattle.tc_units.proofs.SortedFacts.{All-with_item}
 use Rattle.heap_rules.specs.Heap.{Heap, Hugepage, hugepage, holds, is_used, is_backed, backs, is_region, with_run, run_at, reaches}
@@ -17,9 +18,7 @@ pub held_in : (huge page : ℕ) (run : Run) → IsInside huge run → holds page
 held_in huge page run inside e = let parts = holds_parts page run e in record { from = omega (arith, inside.from); to = omega (arith, inside.to) }
 
 pub used_in : (huge page : ℕ) (runs : List Run) → All (IsInside huge) runs → is_used runs page ≡ true → IsHugepageOf huge (page / 256)
-used_in huge page runs inside e =
-    let any = Any-from_list_any (holds page) runs e in
-    held_in huge page any.1 (All-contains (IsInside huge) runs any.1 inside (any.0, any.2, any.3)) any.4
+used_in huge page runs inside e = grind (arith, Any-from_list_any, held_in, All-contains)
 
 -- what a hugepage that the new run reaches becomes
 pub record IsTurned (runs : List Run) (regions : List ℕ) (width : ℕ) (run : Run) (h : ℕ) (x y : Hugepage) : Type 0 where
@@ -60,10 +59,7 @@ module _ (heap : Heap) (page n : ℕ) (becomes : ℕ → Hugepage → Hugepage) 
   -- a fact of each hugepage, from it where the run reaches and where it does not
   by_reach : (P : Hugepage → Type 0) (h : ℕ) → IsHugepageOf heap.config.huge h → (reaches h run ≡ true → P (becomes h (hugepage heap h)))
       → (reaches h run ≡ false → P (hugepage heap h)) → P (hugepage after h)
-  by_reach P h is yes' no' = elim (cases_Bool (reaches h run)) [
-    | inl t ↦ subst P (sym (here h is ∙ ap (λ b. cond b (becomes h (hugepage heap h)) (hugepage heap h)) t)) (yes' t)
-    | inr f ↦ subst P (sym (here h is ∙ ap (λ b. cond b (becomes h (hugepage heap h)) (hugepage heap h)) f)) (no' f)
-  ]
+  by_reach P h is yes' no' = grind (arith, nat_tests, here)
 
   pub grown_kept : (p : ℕ) → IsHugepageOf heap.config.huge (p / 256) → is_backed heap p ≡ true → is_backed after p ≡ true
   grown_kept p is e = by_reach (λ x. backs x p ≡ true) (p / 256) is (λ t. (turned (p / 256) is t).kept p (page_of p) e) (λ f. e)
@@ -78,10 +74,7 @@ module _ (heap : Heap) (page n : ℕ) (becomes : ℕ → Hugepage → Hugepage) 
     arena = length-each change heap.hugepages ∙ sound.arena;
     disjoint = λ p. most_one (holds p run) (count_by (holds p) heap.runs) _ (sound.disjoint p) (λ t. unused_counts heap.runs p (unused p t)) (count-with (holds p) run heap.runs);
     inside = All-with_item (λ (r : Run). r.first.0) (IsInside heap.config.huge) run heap.runs inside sound.inside;
-    backed = λ p e. elim (used_with_cases run heap.runs p e) [
-      | inl new ↦ grown_held p new
-      | inr old ↦ grown_kept p (used_in heap.config.huge p heap.runs sound.inside old) (sound.backed p old)
-    ];
+    backed = grind (arith, used_with_cases run heap.runs, grown_held, grown_kept, used_in heap.config.huge);
     fit = λ h is.
         by_reach (IsFit (with_run run heap.runs) heap.regions heap.config.region h) h is (λ t. (turned h is t).fit)
         (λ f. fit_more run heap.runs heap.regions heap.config.region h (hugepage heap h) f (sound.fit h is));

@@ -2,10 +2,11 @@
 use Rattle.std.proofs.Common.{◌≡◌, ℕ, zero, suc, ◌+◌, ◌*◌, ◌<◌, ◌≤◌, ◌==◌, Bool, true, false, not, cond, max, List, [], ◌∷◌, length, get_or, count_by}
 use Rattle.std.proofs.Common.{Contains, refl, sym, ap, subst, ◌∙◌, inl, inr, arith}
 use Rattle.std.specs.List.{list_all}
-use Rattle.std.proofs.lemmas.Bool.{cases_Bool, cases_eq, lt-ltb, eq-eqb, ne_eqb, eqb-true, false≢true, not_from_false}
+use Rattle.std.proofs.lemmas.Bool.{cases_Bool, cases_eq, lt-ltb, ne_eqb, eqb-true, false≢true, not_from_false}
 use Rattle.std.proofs.lemmas.List.{length-replicate, get_or_default}
 use Rattle.std.proofs.lemmas.List.Elements.{All-filter, All-contains}
 use Rattle.std.proofs.lemmas.List.Folds.{Any-from_list_any}
+use Rattle.std.proofs.lemmas.Bool.Decides.{nat_tests}
 use Rattle.tc_units.specs.declared.spans.Run.{Run}
 use Rattle.tc_units.specs.declared.rows.RowKind.{RowKind}
 use Rattle.tc_units.specs.declared.rows.RowKind.TheVariants as kind
@@ -35,11 +36,7 @@ member : {X : Type 0} (P : X → Type 0) (xs : List X) (x d : X) → (has : Cont
 member P xs x d has h e = subst P (sym has.2 ∙ e) h
 
 pub same_member : {X : Type 0} (p : X → Bool) (xs : List X) (x y : X) → Contains xs x → Contains xs y → p x ≡ true → p y ≡ true → count_by p xs ≤ 1 → x ≡ y
-same_member p xs x y a b s t most =
-    let e = get_or_default xs b.0 x y b.1 in
-    let t' : p (get_or xs b.0 x) ≡ true = ap p (e ∙ b.2) ∙ t in
-    let s' : p (get_or xs a.0 x) ≡ true = ap p a.2 ∙ s in
-    sym a.2 ∙ same_one p xs a.0 b.0 x a.1 b.1 s' t' most ∙ e ∙ b.2
+same_member p xs x y a b s t most = grind (arith, get_or_default xs b.0 x y b.1, p (get_or xs b.0 x), p (get_or xs a.0 x), same_one p xs a.0 b.0 x a.1 b.1)
 
 module _ (heap : Heap) (run : Run) (sound : IsSound heap) (live : Contains heap.runs run) where
   abbrev pub rest : List Run
@@ -63,10 +60,7 @@ module _ (heap : Heap) (run : Run) (sound : IsSound heap) (live : Contains heap.
       omega arith
 
   pub count_rest : (p : Run → Bool) → count_by p rest + cond (p run) 1 0 ≡ count_by p heap.runs
-  count_rest p =
-      let e : get_or heap.runs live.0 run ≡ run = live.2 in
-      let here : ((get_or heap.runs live.0 run).first.0 == run.first.0) ≡ true = ap (λ (r : Run). r.first.0 == run.first.0) e ∙ eq-eqb run.first.0 run.first.0 refl in
-      ap (λ (r : Run). count_by p rest + cond (p r) 1 0) (sym e) ∙ count-without p (λ (r : Run). r.first.0 == run.first.0) heap.runs live.0 run live.1 here one_begins
+  count_rest p = grind (arith, nat_tests, p, count-without p (λ (r : Run). r.first.0 == run.first.0) heap.runs live.0 run live.1, one_begins)
 
   pub fewer : AreFewer heap rest
   fewer = record {
@@ -115,9 +109,7 @@ module _ (heap : Heap) (run : Run) (sound : IsSound heap) (live : Contains heap.
 
   -- The hugepages that it reaches, by what they serve.
   pub none_reach : (h : ℕ) → allocation_count rest h ≡ 0 → HasNoUsed rest h
-  none_reach h e p own =
-      let le = count_le (holds p) (reaches h) rest (λ k d l t. holds_reaches h p (get_or rest k d) own t) in
-      counts_unused rest p (omega arith)
+  none_reach h e p own = grind (arith, count_le, holds_reaches, counts_unused)
 
   pub some_reach : (h : ℕ) → 0 < allocation_count rest h → HasUsed rest h
   some_reach h some =
@@ -155,12 +147,8 @@ module _ (heap : Heap) (run : Run) (sound : IsSound heap) (live : Contains heap.
   left_made h x kind.Filler k e fit =
       let P : Bool → Type 0 = λ b. IsRemade rest heap.regions width h x (cond b (emptied x) x) in
       elim (cases_eq (allocation_count rest h) 0) [
-        | inl none ↦
-            (let unused = none_reach h none in
-            subst P (sym (eq-eqb (allocation_count rest h) 0 none)) (record { fit = emptied_fit h x unused; kept = λ p own u b. absurd (false≢true (sym (unused p own) ∙ u)) }))
-        | inr more ↦
-            subst P (sym (ne_eqb (allocation_count rest h) 0 more))
-            (remade_not rest heap.regions width h x (record { size = fit.size; serves = subst (Serves rest heap.regions width h x) (sym k) (some_reach h (omega arith)); donated = fit.donated }))
+        | inl none ↦ grind (arith, nat_tests, none_reach h none, emptied_fit h x)
+        | inr more ↦ grind (arith, nat_tests, remade_not rest heap.regions width h x, some_reach h)
       ]
   left_made h x kind.Run k e fit =
       let s = serves_at heap.runs heap.regions width h x kind.Run k fit in
@@ -168,9 +156,7 @@ module _ (heap : Heap) (run : Run) (sound : IsSound heap) (live : Contains heap.
         fit = record { size = length-replicate 256 true; serves = (own_run h e s.0, (true, refl)); donated = λ d. absurd (false≢true d) };
         kept = λ p own u b. backs-whole true p;
       }
-  left_made h x kind.Region k e fit =
-      let s = serves_at heap.runs heap.regions width h x kind.Region k fit in
-      remade_not rest heap.regions width h x (record { size = fit.size; serves = subst (λ j. Serves rest heap.regions width h x j) (sym k) s; donated = fit.donated })
+  left_made h x kind.Region k e fit = grind (arith, serves_at, remade_not)
 
   left_each : AreRemade heap rest heap.regions (λ h x. cond (reaches h run) (left_by x.kind rest h x) x)
   left_each h is =

@@ -1,7 +1,8 @@
 -- The live runs with one more and with one less: counts, used pages and members.
 use Rattle.std.proofs.Common.{◌≡◌, ℕ, zero, suc, ◌+◌, ◌<◌, ◌≤◌, ◌⊎◌, Bool, true, false, not, cond, nat_lt, List, [], ◌∷◌, length, get_or, filter, count_by}
-use Rattle.std.proofs.Common.{Contains, refl, sym, ap, subst, ◌∙◌, inl, inr, arith}
-use Rattle.std.proofs.lemmas.Bool.{cases_Bool, cases_lt, ltb-true, lt-ltb, false≢true}
+use Rattle.std.proofs.Common.{Contains, refl, sym, ap, subst, ◌∙◌, arith}
+use Rattle.std.proofs.lemmas.Bool.{ltb-true, lt-ltb}
+use Rattle.std.proofs.lemmas.Bool.Decides.{nat_tests}
 use Rattle.tc_units.specs.declared.spans.Run.{Run}
 use Rattle.heap_rules.specs.Heap.{holds, is_used, with_run}
 use Rattle.tc_units.proofs.Counts.{count-cons, any_is_count, count_some, one-true, one-false}
@@ -16,10 +17,7 @@ pub counts_used : (runs : List Run) (page : ℕ) → 0 < count_by (holds page) r
 counts_used runs page h = any_is_count (holds page) runs ∙ lt-ltb 0 (count_by (holds page) runs) h
 
 pub unused_counts : (runs : List Run) (page : ℕ) → is_used runs page ≡ false → count_by (holds page) runs ≡ 0
-unused_counts runs page e = elim (cases_lt 0 (count_by (holds page) runs)) [
-  | inl some ↦ absurd (false≢true (sym e ∙ counts_used runs page some))
-  | inr none ↦ omega arith
-]
+unused_counts runs page e = grind (arith, nat_tests, counts_used runs page)
 
 pub counts_unused : (runs : List Run) (page : ℕ) → count_by (holds page) runs ≡ 0 → is_used runs page ≡ false
 counts_unused runs page e = any_is_count (holds page) runs ∙ ap (nat_lt 0) e
@@ -35,10 +33,8 @@ pub used_with_new : (run : Run) (runs : List Run) (page : ℕ) → holds page ru
 used_with_new run runs page e = let a = one-true (holds page run) e in let b = count-with (holds page) run runs in counts_used (with_run run runs) page (omega arith)
 
 pub used_with_cases : (run : Run) (runs : List Run) (page : ℕ) → is_used (with_run run runs) page ≡ true → (holds page run ≡ true) ⊎ (is_used runs page ≡ true)
-used_with_cases run runs page e = elim (cases_Bool (holds page run)) [
-  | inl t ↦ inl t
-  | inr f ↦ inr (let a = used_counts (with_run run runs) page e in let b = count-with (holds page) run runs in let c = one-false (holds page run) f in counts_used runs page (omega arith))
-]
+used_with_cases run runs page e =
+    grind (arith, nat_tests, used_counts (with_run run runs) page e, count-with (holds page) run runs, one-false (holds page run), counts_used runs page)
 
 pub unused_with : (run : Run) (runs : List Run) (page : ℕ) → holds page run ≡ false → is_used runs page ≡ false → is_used (with_run run runs) page ≡ false
 unused_with run runs page f e = counts_unused (with_run run runs) page (omega (arith, unused_counts runs page e, count-with (holds page) run runs, one-false (holds page run) f))
@@ -46,31 +42,13 @@ unused_with run runs page f e = counts_unused (with_run run runs) page (omega (a
 -- One element less, by a test that one element alone passes.
 pub count-filter_le : {X : Type 0} (p q : X → Bool) (xs : List X) → count_by p (filter q xs) ≤ count_by p xs
 count-filter_le p q [] = omega arith
-count-filter_le p q (x ∷ xs) =
-    let rest = count-filter_le p q xs in
-    let a = count-cons p x xs in
-    let b = count-cons p x (filter q xs) in
-    elim (q x) as (λ b. count_by p (cond b (x ∷ filter q xs) (filter q xs)) ≤ count_by p (x ∷ xs)) [
-      | true ↦ omega arith
-      | false ↦ omega arith
-    ]
+count-filter_le p q (x ∷ xs) = grind (arith, count-filter_le p q xs, count-cons)
 
 pub count-without : {X : Type 0} (p q : X → Bool) (xs : List X) (k : ℕ) (d : X) → k < length xs → q (get_or xs k d) ≡ true → count_by q xs ≤ 1
     → count_by p (filter (λ x. not (q x)) xs) + cond (p (get_or xs k d)) 1 0 ≡ count_by p xs
 count-without p q [] k d h t most = absurd (omega arith)
 count-without p q (x ∷ xs) zero d h t most = grind (arith, count-cons, one-true, without_none)
-count-without p q (x ∷ xs) (suc k) d h t most =
-    let a = count-cons q x xs in
-    let some = count_some q xs k d (omega arith) t in
-    elim (cases_Bool (q x)) [
-      | inl hit ↦ (let one = one-true (q x) hit in absurd (omega arith))
-      | inr miss ↦
-          let none = one-false (q x) miss in
-          let rest = count-without p q xs k d (omega arith) t (omega arith) in
-          let b = count-cons p x xs in
-          let c = count-cons p x (filter (λ y. not (q y)) xs) in
-          rw miss (omega arith)
-    ]
+count-without p q (x ∷ xs) (suc k) d h t most = grind (arith, nat_tests, count-without p q xs k d, count-cons, count_some, one-true, one-false)
 
 pub Contains-cons : {X : Type 0} (x : X) (xs : List X) (y : X) → Contains xs y → Contains (x ∷ xs) y
 Contains-cons x xs y at = (suc at.0, omega (arith, at.1), at.2)

@@ -28,6 +28,4 @@ longest-le row s m some inside free =
     let len = length-drop s row in
     let far : m ≤ free_from row s = prefix_long not (drop s row) m true (omega arith) (λ k l. not_from_false _ (get_or-drop s row k true ∙ free k l)) in
     let here : get_or (map (free_from row) (places row)) s 0 ≡ free_from row s = get_or-map-range_with_len (free_from row) 0 (length row) s s 0 (omega arith) (omega arith) in
-    let count : length (map (free_from row) (places row)) ≡ length row = length-map-range_with_len (free_from row) 0 (length row) in
-    let each = fold_max-each 0 (map (free_from row) (places row)) s (omega arith) in
-    omega (arith, each, here, far)
+    grind (arith, length-map-range_with_len (free_from row) 0 (length row), fold_max-each 0 (map (free_from row) (places row)) s)

@@ -2,17 +2,18 @@
 use Rattle.std.proofs.Common.{◌≡◌, ℕ, ◌+◌, ◌-◌, ◌*◌, ◌/◌, ◌%◌, ◌<◌, ◌≤◌, Bool, true, false, ◌&&◌, ◌==◌, cond, List, length, get_or, map}
 use Rattle.std.proofs.Common.{Contains, refl, sym, ap, ◌∙◌, arith}
 use Rattle.std.specs.List.{list_all}
-use Rattle.std.proofs.lemmas.Bool.{cases_Bool, cases_lt, and_parts, false≢true}
+use Rattle.std.proofs.lemmas.Bool.{cases_Bool, cases_lt, false≢true}
 use Rattle.std.proofs.lemmas.Grind.{get_or_head}
 use Rattle.std.proofs.lemmas.List.{get_or_past}
 use Rattle.std.proofs.lemmas.List.Folds.{list_all_at}
 use Rattle.std.proofs.lemmas.List.FromFn.{get_or-map-range_with_len}
+use Rattle.std.proofs.lemmas.Bool.Decides.{nat_tests}
 use Rattle.tc_units.specs.declared.spans.Run.{Run}
 use Rattle.tc_units.specs.declared.rows.RowKind.{RowKind}
 use Rattle.tc_units.specs.declared.rows.RowKind.TheVariants as kind
 use Rattle.heap_rules.specs.Heap.{Heap, Hugepage, hugepage, each, backs, is_used, is_filler, is_free_backed, allocation_count, numbers}
 use Rattle.heap_rules.specs.Settle.{unbacked, settled}
-use Rattle.heap_rules.specs.GiveUp.{gives_whole, gives_spare}
+use Rattle.heap_rules.specs.GiveUp.{gives_spare}
 use Rattle.heap_rules.specs.Free.{emptied, left_by, left, without_unused_regions, freed}
 use Rattle.heap_rules.specs.Release.{Released, whole_given, free_given, is_idle, idle_given, spare_row, spare_rows, only_used, spare_given, release}
 use Rattle.heap_rules.specs.Sound.{Serves, IsSound}
@@ -68,17 +69,13 @@ freed_backs_none heap run sound live page e =
 
 -- what a step of a release leaves
 whole_backs_none : (flags : List Bool) (heap : Heap) (n : ℕ) → BacksNone heap (whole_given flags heap n).heap
-whole_backs_none flags heap n page =
-    each_unbacks (λ h x. cond (gives_whole flags n h) (unbacked x) x) heap.hugepages
-    (λ h from to. let x = hugepage heap h in unbacks_if (gives_whole flags n h) x (unbacked x) x (λ _. unbacks_unbacked x) (λ _. unbacks_same x)) (page / 256) page
+whole_backs_none flags heap n page = grind (arith, each_unbacks, unbacks_if, unbacks_unbacked, unbacks_same)
 
 only_used_unbacks : (runs : List Run) (h : ℕ) (x : Hugepage) → Unbacks x (only_used runs h x)
 only_used_unbacks runs h x page e =
     let test : ℕ → Bool = λ p. backs x p && is_used runs p in
     let own : ℕ = 256 * h + page % 256 in
-    let place : own % 256 ≡ page % 256 = omega arith in
-    let read = get_or-map-range_with_len test (256 * h) 256 (page % 256) own false (omega arith) refl in
-    ap (λ k. get_or x.backed k false) (sym place) ∙ (and_parts _ _ (sym read ∙ e)).0
+    grind (arith, nat_tests, get_or-map-range_with_len test (256 * h) 256 (page % 256) own false)
 
 spare_backs_none : (heap : Heap) (n : ℕ) → BacksNone heap (spare_given heap n).heap
 spare_backs_none heap n page =

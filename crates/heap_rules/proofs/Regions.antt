@@ -1,9 +1,10 @@
 -- The routes by regions.
-use Rattle.std.proofs.Common.{◌≡◌, ℕ, ◌+◌, ◌*◌, ◌/◌, ◌<◌, ◌≤◌, true, false, cond, List, count_by, refl, sym, ap, subst, ◌∙◌, inl, inr, arith}
-use Rattle.std.proofs.lemmas.Bool.{cases_Bool, cases_lt, lt-ltb, false≢true}
+use Rattle.std.proofs.Common.{◌≡◌, ℕ, ◌+◌, ◌*◌, ◌/◌, ◌<◌, ◌≤◌, true, false, cond, List, count_by, refl, sym, subst, ◌∙◌, arith, inl, inr}
+use Rattle.std.proofs.lemmas.Bool.{false≢true, cases_lt, lt-ltb}
 use Rattle.std.proofs.lemmas.List.{length-replicate}
 use Rattle.std.proofs.lemmas.List.Elements.{All-weaker, All-contains}
 use Rattle.std.proofs.lemmas.List.Folds.{Any-from_list_any}
+use Rattle.std.proofs.lemmas.Bool.Decides.{nat_tests}
 use Rattle.tc_units.specs.declared.spans.Run.{Run}
 use Rattle.tc_units.specs.declared.rows.RowKind.{RowKind}
 use Rattle.tc_units.specs.declared.rows.RowKind.TheVariants as kind
@@ -71,10 +72,7 @@ module _ (heap : Heap) (r : ℕ) (sound : IsSound heap) (are : AreFree heap r he
 
   by_span : (P : Hugepage → Type 0) (h : ℕ) → IsHugepageOf heap.config.huge h → (spans width h r ≡ true → P (region_page (hugepage heap h)))
       → (spans width h r ≡ false → P (hugepage heap h)) → P (hugepage with_it h)
-  by_span P h is inner outer = elim (cases_Bool (spans width h r)) [
-    | inl t ↦ subst P (sym (here h is ∙ ap (λ b. cond b (region_page (hugepage heap h)) (hugepage heap h)) t)) (inner t)
-    | inr f ↦ subst P (sym (here h is ∙ ap (λ b. cond b (region_page (hugepage heap h)) (hugepage heap h)) f)) (outer f)
-  ]
+  by_span P h is inner outer = grind (arith, nat_tests, here)
 
   free_at_span : (h : ℕ) → spans width h r ≡ true → is_free (hugepage heap h) ≡ true
   free_at_span h e = let parts = spans_parts width h r e in are.free h parts.0 parts.1

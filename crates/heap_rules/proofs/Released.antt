@@ -2,9 +2,10 @@
 use Rattle.std.proofs.Common.{◌≡◌, ℕ, ◌+◌, ◌-◌, ◌*◌, ◌<◌, ◌≤◌, Bool, true, false, ◌&&◌, cond, List, length, map, count_by, refl, sym, subst, ◌∙◌, inl, inr}
 use Rattle.std.proofs.Common.{arith}
 use Rattle.std.specs.List.{list_all}
-use Rattle.std.proofs.lemmas.Bool.{cases_Bool, and_parts, and_from, eqb-true, false≢true, false_from_ne_true}
+use Rattle.std.proofs.lemmas.Bool.{cases_Bool, and_parts, eqb-true, false≢true, false_from_ne_true}
 use Rattle.std.proofs.lemmas.List.{length-replicate}
 use Rattle.std.proofs.lemmas.List.FromFn.{length-map-range_with_len, get_or-map-range_with_len}
+use Rattle.std.proofs.lemmas.Bool.Decides.{nat_tests}
 use Rattle.tc_units.specs.declared.spans.Run.{Run}
 use Rattle.tc_units.specs.declared.rows.RowKind.TheVariants as kind
 use Rattle.heap_rules.specs.Heap.{Heap, Hugepage, hugepage, numbers, backed_count, backed_pages, is_used, is_free_backed, is_filler, is_region, backs, used_from, used_count}
@@ -12,7 +13,7 @@ use Rattle.heap_rules.specs.Numbered.{at_number}
 use Rattle.heap_rules.specs.Settle.{unbacked}
 use Rattle.heap_rules.specs.GiveUp.{gives_whole, gives_spare}
 use Rattle.heap_rules.specs.Release.{Released, whole_given, free_given, is_idle, idle_given, spare_row, spare_rows, only_used, spare_given, release}
-use Rattle.heap_rules.specs.Sound.{IsHugepageOf, HasNoUsed, Serves, IsFit, IsSound}
+use Rattle.heap_rules.specs.Sound.{IsHugepageOf, HasNoUsed, IsFit, IsSound}
 use Rattle.heap_rules.specs.Laws.{ReleaseKeeps}
 use Rattle.tc_units.proofs.Counts.{count_some}
 use Rattle.heap_rules.proofs.Places.{backs-map, map-at, idle_at}
@@ -40,14 +41,7 @@ remade_used : (runs : List Run) (regions : List ℕ) (width h : ℕ) (x : Hugepa
 remade_used runs regions width h x filler fit =
     let test : ℕ → Bool = λ page. backs x page && is_used runs page in
     let k = is_Filler x.kind filler in
-    record {
-      fit = record {
-        size = length-map-range_with_len test (256 * h) 256;
-        serves = subst (λ j. Serves runs regions width h (only_used runs h x) j) (sym k) (serves_at runs regions width h x kind.Filler k fit);
-        donated = fit.donated;
-      };
-      kept = λ p own u b. backs-map test h p own ∙ and_from _ _ b u;
-    }
+    grind (arith, nat_tests, length-map-range_with_len test (256 * h) 256, serves_at runs regions width h x kind.Filler k fit, backs-map test h)
 
 pub spare_sound : (heap : Heap) (n : ℕ) → IsSound heap → IsSound (spare_given heap n).heap
 spare_sound heap n sound =

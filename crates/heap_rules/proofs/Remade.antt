@@ -1,5 +1,5 @@
 -- A sound heap whose hugepages change, while no page comes into use.
-use Rattle.std.proofs.Common.{◌≡◌, ℕ, ◌+◌, ◌/◌, ◌<◌, ◌≤◌, true, List, count_by, All, sym, subst, ◌∙◌, arith}
+use Rattle.std.proofs.Common.{◌≡◌, ℕ, ◌+◌, ◌<◌, ◌≤◌, true, List, count_by, All, sym, subst, ◌∙◌, arith}
 use Rattle.std.proofs.lemmas.List.Elements.{All-weaker}
 use Rattle.tc_units.specs.declared.spans.Run.{Run}
 use Rattle.heap_rules.specs.Heap.{Heap, Hugepage, hugepage, each, holds, is_used, is_region, backs, spans}
@@ -41,10 +41,7 @@ module _ (heap : Heap) (runs : List Run) (regions : List ℕ) (f : ℕ → Hugep
     arena = length-each f heap.hugepages ∙ sound.arena;
     disjoint = fewer.disjoint;
     inside = fewer.inside;
-    backed = λ p e.
-        (let is = used_in heap.config.huge p runs fewer.inside e in
-        let P : Hugepage → Type 0 = λ x. backs x p ≡ true in
-        subst P (sym (here (p / 256) is)) ((made (p / 256) is).kept p (page_of p) e (sound.backed p (fewer.used p e))));
+    backed = grind (arith, used_in heap.config.huge, here, made, page_of, fewer.used);
     fit = λ h is. (let P : Hugepage → Type 0 = λ x. IsFit runs regions heap.config.region h x in subst P (sym (here h is)) (made h is).fit);
     apart = apart;
   }
@@ -57,16 +54,12 @@ module _ (heap : Heap) (runs : List Run) (regions : List ℕ) (f : ℕ → Hugep
 -- with the same runs and regions
 pub remade_same : (heap : Heap) (f : ℕ → Hugepage → Hugepage) (counts : List ℕ) → IsSound heap → AreRemade heap heap.runs heap.regions f
     → ((h : ℕ) (x : Hugepage) → is_region x ≡ true → is_region (f h x) ≡ true) → IsSound (remade heap heap.runs heap.regions f counts)
-remade_same heap f counts sound made stays = record {
-  runs = remade_sound heap heap.runs heap.regions f counts sound.runs (same_runs heap sound.runs) sound.runs.apart made;
-  regions = All-weaker (IsRegion heap) (IsRegion (remade heap heap.runs heap.regions f counts))
-      (λ r is. record {
-        from = is.from;
-        to = is.to;
-        kinds = region_kinds heap heap.runs heap.regions f counts sound.runs r is.from is.to (λ h e. stays h (hugepage heap h) (is.kinds h e));
-        page = is.page;
-        own = is.own;
-        own_to = is.own_to;
-        used = is.used;
-      }) heap.regions sound.regions;
-}
+remade_same heap f counts sound made stays =
+    grind (
+      arith,
+      remade_sound heap heap.runs heap.regions f counts sound.runs (same_runs heap sound.runs) sound.runs.apart made,
+      same_runs heap sound.runs,
+      All-weaker (IsRegion heap) (IsRegion (remade heap heap.runs heap.regions f counts)),
+      region_kinds heap heap.runs heap.regions f counts sound.runs,
+      stays,
+    )

@@ -1,6 +1,6 @@
 -- Each route of a new run gives a sound heap with it.
-use Rattle.std.proofs.Common.{◌≡◌, ℕ, ◌+◌, ◌*◌, ◌/◌, ◌<◌, ◌≤◌, Bool, true, false, cond, refl, sym, ap, subst, ◌∙◌, inl, inr, arith}
-use Rattle.std.proofs.lemmas.Bool.{cases_lt, le-leb, lt-leb, false≢true}
+use Rattle.std.proofs.Common.{◌≡◌, ℕ, ◌+◌, ◌*◌, ◌/◌, ◌<◌, ◌≤◌, Bool, true, false, sym, ap, ◌∙◌, arith, cond, subst, inl, inr}
+use Rattle.std.proofs.lemmas.Bool.{le-leb, lt-leb, false≢true, cases_lt}
 use Rattle.std.proofs.lemmas.List.{length-replicate}
 use Rattle.tc_units.specs.declared.spans.Run.{Run}
 use Rattle.tc_units.specs.declared.rows.RowKind.TheVariants as kind
@@ -18,14 +18,7 @@ use Rattle.heap_rules.proofs.Chosen.{AreFree}
 -- a route's answer, from what it does to the hugepages that the run reaches
 pub given_by : (heap : Heap) (page n : ℕ) (becomes : ℕ → Hugepage → Hugepage) → IsSound heap → IsInside heap.config.huge (run_at page n) → IsUnused heap (run_at page n)
     → AreTurned heap (run_at page n) becomes → IsGiven heap n (placed heap page n becomes)
-given_by heap page n becomes sound inside unused turned = record {
-  pages = refl;
-  inside = inside;
-  unused = unused;
-  runs = refl;
-  config = refl;
-  sound = grown_sound heap page n becomes sound inside unused turned;
-}
+given_by heap page n becomes sound inside unused turned = grind (arith, grown_sound heap page n becomes sound inside unused turned)
 
 pub free_not_region : (x : Hugepage) → is_free x ≡ true → is_region x ≡ true → ⊥
 free_not_region x free region = false≢true (sym (ap is_kind_region (is_Free x.kind free)) ∙ region)
@@ -33,28 +26,12 @@ free_not_region x free region = false≢true (sym (ap is_kind_region (is_Free x.
 -- a free hugepage that becomes the filler's, or a run's alone
 turned_filler : (heap : Heap) (run : Run) (h page : ℕ) (donated : Bool) (x : Hugepage) → is_free x ≡ true → IsPageOf h page → holds page run ≡ true
     → Turns heap run h x (filler_page donated)
-turned_filler heap run h page donated x free own' held = record {
-  fit = record {
-    size = length-replicate 256 true;
-    serves = record { page = page; own = own'; used = used_with_new run heap.runs page held };
-    donated = λ _. refl;
-  };
-  held = λ p _ _. backs-whole true p;
-  kept = λ p _ _. backs-whole true p;
-  region = λ e. absurd (free_not_region x free e);
-}
+turned_filler heap run h page donated x free own' held =
+    grind (arith, length-replicate 256 true, used_with_new run heap.runs page held, backs-whole true, free_not_region x free)
 
 turned_run : (heap : Heap) (run : Run) (h : ℕ) (x : Hugepage) → is_free x ≡ true → run.first.0 ≤ 256 * h → 256 * h + 256 ≤ run.first.0 + run.pages → Turns heap run h x run_page
-turned_run heap run h x free from to = record {
-  fit = record {
-    size = length-replicate 256 true;
-    serves = (record { run = run; live = Contains-new (λ (r : Run). r.first.0) run heap.runs; from = from; to = to }, refl);
-    donated = λ e. absurd (false≢true e);
-  };
-  held = λ p _ _. backs-whole true p;
-  kept = λ p _ _. backs-whole true p;
-  region = λ e. absurd (free_not_region x free e);
-}
+turned_run heap run h x free from to =
+    grind (arith, length-replicate 256 true, Contains-new (λ (r : Run). r.first.0) run heap.runs, backs-whole true, free_not_region x free)
 
 -- a page of a free hugepage is unused
 pub free_unused : (heap : Heap) (h page : ℕ) → AreRunsSound heap → IsHugepageOf heap.config.huge h → is_free (hugepage heap h) ≡ true → IsPageOf h page → is_used heap.runs page ≡ false

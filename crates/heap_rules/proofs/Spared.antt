@@ -2,7 +2,7 @@
 use Rattle.std.proofs.Common.{◌≡◌, ℕ, zero, suc, ◌<◌, ◌≤◌, ◌⊎◌, Bool, true, false, not, ◌&&◌, ◌||◌, cond, nat_lt, nat_eq, List, [], ◌∷◌, length, get_or}
 use Rattle.std.proofs.Common.{filter, count_by, sum_by, All, refl, sym, ap, ◌∙◌, inl, inr, arith}
 use Rattle.std.specs.List.{list_any}
-use Rattle.std.proofs.lemmas.Bool.{cases_Bool, and_parts, ltb-false, not-true, not-false, false≢true}
+use Rattle.std.proofs.lemmas.Bool.{cases_Bool, ltb-false, not-true, not-false, false≢true}
 use Rattle.std.proofs.lemmas.Bool.Decides.{nat_tests}
 use Rattle.std.proofs.lemmas.List.Elements.{All-head, All-tail}
 use Rattle.std.proofs.lemmas.List.Folds.{Any-from_list_any, list_any_at}
@@ -32,9 +32,7 @@ itself : (x : SpareRow) → gives_before x x ≡ false
 itself x = before_is x x ∙ used_itself x.used x.number
 
 one_le : (a b : Bool) (n : ℕ) → (a ≡ true → b ≡ true) → cond a n 0 ≤ cond b n 0
-one_le true true n h = omega arith
-one_le true false n h = absurd (false≢true (h refl))
-one_le false b n h = omega arith
+one_le a b n h = grind (arith)
 
 -- where no element passes some test, each fails it
 none_passes : {X : Type 0} (p : X → Bool) (xs : List X) → list_any p xs ≡ false → All (λ x. p x ≡ false) xs
@@ -66,15 +64,7 @@ given_or false g e t = absurd (false≢true t)
 sum_within : {X : Type 0} (f : X → ℕ) (p q : X → Bool) (xs : List X) → All (λ x. p x ≡ true → q x ≡ true) xs → sum_by f (filter p xs) ≤ sum_by f (filter q xs)
 sum_within f p q [] all = omega arith
 sum_within f p q (x ∷ xs) all =
-    let a = sum-filter f p (x ∷ xs) in
-    let b = sum-filter f q (x ∷ xs) in
-    let c = sum_by-cons (λ y. cond (p y) (f y) 0) x xs in
-    let d = sum_by-cons (λ y. cond (q y) (f y) 0) x xs in
-    let e = sum-filter f p xs in
-    let g = sum-filter f q xs in
-    let first = one_le (p x) (q x) (f x) (All-head (λ y. p y ≡ true → q y ≡ true) x xs all) in
-    let rest = sum_within f p q xs (All-tail (λ y. p y ≡ true → q y ≡ true) x xs all) in
-    omega arith
+    grind (arith, sum_within f p q xs (All-tail (λ y. p y ≡ true → q y ≡ true) x xs all), sum-filter, sum_by-cons, one_le, All-head, All-tail)
 
 module _ (rows : List SpareRow) (n : ℕ) where
   abbrev gives : SpareRow → Bool
@@ -97,13 +87,7 @@ module _ (rows : List SpareRow) (n : ℕ) where
             let within : sum_by (λ s. s.spare) (filter (gives_before r) rows) ≤ spared = sum_within (λ s. s.spare) (gives_before r) gives rows
             (λ k d l e. given_or (gives_before r (get_or rows k d)) (gives (get_or rows k d)) (none_passes before rows none k d l) e) in
             omega arith)
-        | inl some ↦
-            (let any = Any-from_list_any before rows some in
-            let s : SpareRow = any.1 in
-            let parts = and_parts (gives_before r s) (not (gives s)) any.4 in
-            let passed = ap (gives_before r) any.3 ∙ parts.0 in
-            let less = count_less (gives_before s) (gives_before r) rows any.0 s any.2 (ap (gives_before s) any.3 ∙ itself s) passed (λ k d l e. passes (get_or rows k d) s r e parts.0) in
-            earlier s (not-true (gives s) parts.1) (omega arith))
+        | inl some ↦ grind (arith, nat_tests, Any-from_list_any before rows some, count_less, itself, passes, earlier, not-true)
       ]
 
   enough_from : (m : ℕ) (r : SpareRow) → gives r ≡ false → count_by (gives_before r) rows ≤ m → n ≤ spared
