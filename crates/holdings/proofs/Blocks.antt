@@ -1,13 +1,14 @@
 -- Blocks that calls leave have no byte in common, and their bytes are among those of the live runs.
-use Rattle.std.proofs.Common.{◌≡◌, ℕ, zero, suc, ◌+◌, ◌*◌, ◌<◌, ◌≤◌, Bool, true, false, not, ◌&&◌, cond, eqb, leb}
+use Rattle.std.proofs.Common.{◌≡◌, ℕ, zero, suc, ◌+◌, ◌*◌, ◌<◌, ◌≤◌, Bool, true, false, not, ◌&&◌, eqb, leb}
 use Rattle.std.proofs.Common.{ltb, List, [], ◌∷◌, ◌++◌, length, take, drop, refl, sym, ap, ◌∙◌, subst, arith, inl, inr}
 use Rattle.std.specs.Prelude.{All, count_by, filter, sum_by}
 use Rattle.std.specs.List.{list_any, slice_index_or}
-use Rattle.std.proofs.lemmas.Bool.{cases_Bool, cases_lt, and_parts, and_from, eqb-true, le-leb, lt-ltb, leb-true, ltb-true, false≢true}
+use Rattle.std.proofs.lemmas.Bool.{cases_Bool, cases_lt, and_parts, and_from, le-leb, lt-ltb, leb-true, ltb-true, false≢true}
 use Rattle.std.proofs.lemmas.List.{take_more, take_all}
 use Rattle.std.proofs.lemmas.List.Elements.{All-head, All-tail, All-nil, All-filter}
 use Rattle.std.proofs.lemmas.List.Sums.{sum_by-cons}
 use Rattle.std.proofs.Math.Seq.{split_at}
+use Rattle.std.proofs.lemmas.Bool.Decides.{nat_tests}
 use Rattle.tc_units.specs.Units.{page_bytes}
 use Rattle.tc_units.specs.declared.spans.Run.{Run}
 use Rattle.tc_units.specs.declared.units.Addr.{Addr}
@@ -51,19 +52,7 @@ pub record AreSpread (bs : List Extent) : Type 0 where
 -- a block that meets none has no byte of theirs
 no_byte : (n : ℕ) (b : Extent) (bs : List Extent) → 0 < has n b → list_any (meets b) bs ≡ false → sum_by (has n) bs ≡ 0
 no_byte n b [] own apart = refl
-no_byte n b (x ∷ xs) own apart =
-    elim (cases_Bool (meets b x)) [
-      | inl met ↦ absurd (false≢true (sym apart ∙ (let e : list_any (meets b) (x ∷ xs) ≡ true = rw met refl in e)))
-      | inr unmet ↦
-          let rest : list_any (meets b) xs ≡ false = sym (let e : list_any (meets b) (x ∷ xs) ≡ list_any (meets b) xs = rw unmet refl in e) ∙ apart in
-          elim (cases_lt 0 (has n x)) [
-            | inl both ↦
-                let p = bytes_of n b own in
-                let q = bytes_of n x both in
-                absurd (false≢true (sym unmet ∙ and_from _ _ (lt-ltb b.addr (x.addr + x.len) (omega (arith, p.0, q.1))) (lt-ltb x.addr (b.addr + b.len) (omega (arith, q.0, p.1)))))
-            | inr none ↦ omega (arith, none, no_byte n b xs own rest, sum_by-cons (has n) x xs)
-          ]
-    ]
+no_byte n b (x ∷ xs) own apart = grind (arith, nat_tests, no_byte n b xs own, false≢true, bytes_of, sum_by-cons)
 
 sum_filter : (f : Extent → ℕ) (p : Extent → Bool) (xs : List Extent) → sum_by f (filter p xs) ≤ sum_by f xs
 sum_filter f p [] = omega arith
@@ -81,11 +70,7 @@ with_one huge bs b are place =
     }
 
 without_one : (bs : List Extent) (addr : ℕ) → AreSpread bs → AreSpread (without_block addr bs)
-without_one bs addr are =
-    record {
-      bytes = λ n. omega (arith, are.bytes n, sum_filter (has n) (λ (x : Extent). not (eqb x.addr addr)) bs);
-      some = All-filter (λ (x : Extent). not (eqb x.addr addr)) (λ (x : Extent). 0 < x.len) bs are.some;
-    }
+without_one bs addr are = grind (arith, are.bytes, sum_filter, All-filter (λ (x : Extent). not (eqb x.addr addr)) (λ (x : Extent). 0 < x.len) bs are.some)
 
 -- an allowed answer keeps them so
 pub place_of : (huge : ℕ) (round : ℕ → ℕ) (earlier : List CallLine) (call : Call) (addr : Addr) (len : ℕ)
@@ -118,14 +103,7 @@ starts_once a [] some = omega arith
 starts_once a (b ∷ bs) some =
     let own : 0 < b.len = All-head (λ (x : Extent). 0 < x.len) b bs some in
     let rest = starts_once a bs (All-tail (λ (x : Extent). 0 < x.len) b bs some) in
-    let sums = sum_by-cons (has a) b bs in
-    let counts = count-cons (λ (x : Extent). eqb x.addr a) b bs in
-    elim (cases_Bool (eqb b.addr a)) [
-      | inl is ↦
-          let e : b.addr ≡ a = eqb-true b.addr a is in
-          omega (arith, rest, sums, counts, ap (λ t. cond {A = ℕ} t 1 0) is, has_byte a b (omega (arith, e)) (omega (arith, e, own)))
-      | inr other ↦ omega (arith, rest, sums, counts, ap (λ t. cond {A = ℕ} t 1 0) other)
-    ]
+    grind (arith, nat_tests, sum_by-cons (has a) b bs, count-cons (λ (x : Extent). eqb x.addr a) b bs, has_byte a b)
 
 pub apart_after : (huge : ℕ) (round : ℕ → ℕ) (calls : List CallLine) → IsBlockRun huge round calls → (n : ℕ) → n ≤ length calls → AreApart (blocks_after (take n calls))
 apart_after huge round calls run n within =
@@ -148,9 +126,7 @@ none_over (b ∷ bs) from = omega (arith, none_over bs from, sum_by-cons (over f
 
 few_over : (bs : List Extent) → ((n : ℕ) → sum_by (has n) bs ≤ 1) → (from k : ℕ) → sum_by (over from k) bs ≤ k
 few_over bs once from zero = omega (arith, none_over bs from)
-few_over bs once from (suc k) =
-    let both : sum_by (over from (suc k)) bs ≡ sum_by (over from k) bs + sum_by (has (from + k)) bs = sum_of_both (over from k) (has (from + k)) bs in
-    omega (arith, both, once (from + k), few_over bs once from k)
+few_over bs once from (suc k) = grind (arith, few_over bs once from k, sum_of_both (over from k) (has (from + k)) bs, once (from + k))
 
 -- a block's bytes in runs, and all blocks' bytes in them
 abbrev pub in_runs : List Run → Extent → ℕ
@@ -184,16 +160,7 @@ sum_all f (b ∷ bs) each =
 
 module _ (m : Setup) (b : Books) (calls : List CallLine) (f : Facts m b calls) where
   standing_lies : (x : Extent) → IsStanding m b x → x.len ≤ in_runs b.heap x
-  standing_lies x stands =
-      elim stands [
-        | inl l ↦
-            let at : x.addr ≡ first_byte l.run = ap (λ (y : Extent). y.addr) l.is in
-            let len : x.len ≡ l.run.pages * page_bytes = ap (λ (y : Extent). y.len) l.is in
-            lies x l.run b.heap l.live (omega (arith, at)) (omega (arith, at, len))
-        | inr o ↦
-            let s = span_of m b calls f o.class x.addr o.object in
-            lies x (record { first = s.span.first; pages = s.span.pages }) b.heap s.live s.from (omega (arith, s.to, o.size))
-      ]
+  standing_lies x stands = grind (arith, lies x, span_of m b calls f)
 
   pub bytes_in : live_bytes calls ≤ sum_by (λ (r : Run). r.pages) b.heap * page_bytes
   bytes_in =

@@ -1,8 +1,8 @@
 -- What one more decided call makes of a run on disjoint blocks.
-use Rattle.std.proofs.Common.{◌≡◌, ℕ, false, ◌||◌, eqb, cond, List, [], ◌∷◌, ◌++◌, Option, Some, None, refl, sym, ap, ◌∙◌, subst, arith, ◌⊎◌, inl, inr}
+use Rattle.std.proofs.Common.{◌≡◌, ℕ, false, ◌||◌, cond, List, [], ◌∷◌, ◌++◌, Option, Some, None, refl, arith, ◌⊎◌, inl, inr}
 use Rattle.std.specs.Prelude.{◌==◌, find, All}
 use Rattle.std.specs.List.{list_any}
-use Rattle.std.proofs.lemmas.Bool.{cases_Bool, eq-eqb, ne_eqb, eqb-true, or_parts, cond-true, cond-false}
+use Rattle.std.proofs.lemmas.Bool.{eq-eqb, ne_eqb, cond-true, cond-false}
 use Rattle.std.proofs.lemmas.Bool.Decides.{nat_tests}
 use Rattle.std.proofs.lemmas.List.Sums.{fold_push}
 use Rattle.std.proofs.lemmas.List.Recursion.{or_push}
@@ -22,23 +22,13 @@ freed_in-push label calls c = or_push (list_any (λ (d : CallLine). frees label 
 -- the answer to a label that has one stays
 pub answer_to-push_old : (label : ℕ) (calls : List CallLine) (c : CallLine) (answer : Answer) → answer_to label calls ≡ Some answer → answer_to label (calls ++ c ∷ []) ≡ Some answer
 answer_to-push_old label [] c answer h = absurd (cc)
-answer_to-push_old label (d ∷ ds) c answer h =
-    elim (cases_Bool (allocates label d.call)) [
-      | inl his ↦ ap (λ t. cond t (Some d.answer) (answer_to label (ds ++ c ∷ []))) his ∙ (sym (ap (λ t. cond t (Some d.answer) (answer_to label ds)) his) ∙ h)
-      | inr other ↦ rw other (answer_to-push_old label ds c answer (rw other at h))
-    ]
+answer_to-push_old label (d ∷ ds) c answer h = grind (arith, nat_tests, answer_to-push_old label ds c answer)
 
 -- a label without an answer has that of the call, where this is its allocation
 pub answer_to-push_new : (label : ℕ) (calls : List CallLine) (c : CallLine) → answer_to label calls ≡ None
     → answer_to label (calls ++ c ∷ []) ≡ cond (allocates label c.call) (Some c.answer) None
 answer_to-push_new label [] c h = refl
-answer_to-push_new label (d ∷ ds) c h =
-    elim (cases_Bool (allocates label d.call)) [
-      | inl his ↦
-          let found : Some d.answer ≡ None = sym (ap (λ t. cond t (Some d.answer) (answer_to label ds)) his) ∙ h in
-          absurd (cc)
-      | inr other ↦ rw other (answer_to-push_new label ds c (rw other at h))
-    ]
+answer_to-push_new label (d ∷ ds) c h = grind (arith, nat_tests, answer_to-push_new label ds c)
 
 -- an answer to a label, or none
 pub answer_cases : (o : Option Answer) → (o ≡ None) ⊎ ((answer : Answer) × (o ≡ Some answer))
@@ -72,23 +62,8 @@ find-without_block gone addr (b ∷ bs) ne = grind (arith, nat_tests, find-witho
 -- a block that is found begins at its address, has what all have, and meets no block that meets none
 pub find_all : (P : Extent → Type 0) (addr : ℕ) (bs : List Extent) (b : Extent) → All P bs → find (λ x. x.addr == addr) bs ≡ Some b → P b × (b.addr ≡ addr)
 find_all P addr [] b all h = absurd (cc)
-find_all P addr (x ∷ xs) b all h =
-    elim (cases_Bool (eqb x.addr addr)) [
-      | inl here ↦
-          let same : Some x ≡ Some b = sym (cond-true (eqb x.addr addr) (Some x) (find (λ y. y.addr == addr) xs) here) ∙ h in
-          let e : x ≡ b = cc in
-          (subst P e (All-head P x xs all), ap (λ (y : Extent). y.addr) (sym e) ∙ eqb-true x.addr addr here)
-      | inr not_here ↦ find_all P addr xs b (All-tail P x xs all) (sym (cond-false (eqb x.addr addr) (Some x) (find (λ y. y.addr == addr) xs) not_here) ∙ h)
-    ]
+find_all P addr (x ∷ xs) b all h = grind (arith, nat_tests, find_all P addr xs b (All-tail P x xs all), All-head, All-tail)
 
 pub find_apart : (block : Extent) (addr : ℕ) (bs : List Extent) (b : Extent) → list_any (meets block) bs ≡ false → find (λ x. x.addr == addr) bs ≡ Some b → meets block b ≡ false
 find_apart block addr [] b apart h = absurd (cc)
-find_apart block addr (x ∷ xs) b apart h =
-    let parts : (meets block x ≡ false) × (list_any (meets block) xs ≡ false) = or_parts (meets block x) (list_any (meets block) xs) apart in
-    elim (cases_Bool (eqb x.addr addr)) [
-      | inl here ↦
-          let same : Some x ≡ Some b = sym (cond-true (eqb x.addr addr) (Some x) (find (λ y. y.addr == addr) xs) here) ∙ h in
-          let e : x ≡ b = cc in
-          subst (λ y. meets block y ≡ false) e parts.0
-      | inr not_here ↦ find_apart block addr xs b parts.1 (sym (cond-false (eqb x.addr addr) (Some x) (find (λ y. y.addr == addr) xs) not_here) ∙ h)
-    ]
+find_apart block addr (x ∷ xs) b apart h = grind (arith, nat_tests, find_apart block addr xs b)

@@ -52,9 +52,7 @@ module _ {m : Setup} {b : Books} {calls : List CallLine} (f : Facts m b calls) (
         none_counts (off_map r) b.accounts (λ i x other.
         elim (cases_eq i t) [
           | inl same ↦ ap (λ (y : Account). runs_like r y.off) (one_at b.accounts i t x a other at same) ∙ ap (runs_like r) clear
-          | inr apart ↦
-              let p : runs_at (first_byte r) x.off ≡ runs_at o.0 x.off = ap (λ n. runs_at n x.off) start in
-              omega (arith, p, (alone i x other).1 apart, (f.selves i x other).offs o.0, like_at r x.off)
+          | inr apart ↦ grind (arith, alone i x other, like_at r x.off)
         ])
 
     of_no_class : (s : SpanRef) (c : Class) → 0 < spans_like s b.spans → first_byte (run_of s) ≡ o.0 → s.kind ≡ Small c → ⊥
@@ -79,11 +77,7 @@ module _ {m : Setup} {b : Books} {calls : List CallLine} (f : Facts m b calls) (
             let c = class_counts m.rows (λ k. b.stock.objects k o.0) some in
             let s = span_of m b calls f c.0 o.0 c.1 in
             record { span = s.span; there = s.there; holds = byte_page s.span o.0 s.byte; is = inl (c.0, s.kind, c.1) }
-        | inr no_class ↦
-            let none : over_classes m.rows (λ k. b.stock.objects k o.0) ≡ 0 = omega (arith, no_class) in
-            let r = run_found o.0 b.heap (omega (arith, begun none)) in
-            let s = span_found r.0 b.spans (omega (arith, mapped none clear r.0 r.1, f.map r.0, r.2)) in
-            found_large none s.0 s.2 (same_start (run_of s.0) r.0 o.0 s.1 r.1)
+        | inr no_class ↦ grind (arith, run_found o.0 b.heap, begun, span_found, mapped, found_large, same_start)
       ]
 
 pub frees_find : Finds

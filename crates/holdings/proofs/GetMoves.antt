@@ -10,16 +10,17 @@ use Rattle.tc_model.specs.declared.answers.CallLine.{CallLine}
 use Rattle.holdings.specs.Facts.{Facts}
 use Rattle.holdings.specs.Laws.{Found}
 use Rattle.tc_units.specs.declared.units.Label.{Label}
-use Rattle.tc_units.specs.declared.spans.SpanKind.TheVariants.{Large, Small}
+use Rattle.tc_units.specs.declared.spans.SpanKind.TheVariants.{Small}
 use Rattle.std.proofs.Common.{List, Some, [], ap, arith, eqb, inl, inr, refl, subst, sym, true, ℕ, ◌++◌, ◌+◌, ◌/◌, ◌<◌, ◌∙◌, ◌∷◌, ◌≡◌, ◌≤◌}
 use Rattle.tc_model.specs.declared.calls.Call.TheVariants.{Malloc}
 use Rattle.tc_units.specs.declared.spans.Run.{Run}
 use Rattle.tc_units.specs.declared.spans.SpanRef.{SpanRef}
-use Rattle.holdings.specs.Runs.{bit, first_byte, large, objects_at, run_of, runs_at, runs_like, same_run, same_span, small, spans_at, spans_like, spans_of_run}
-use Rattle.std.proofs.lemmas.Bool.{cases_Bool, cases_eq, cases_lt, cond-false, cond-true, eq-eqb, ne_eqb}
+use Rattle.holdings.specs.Runs.{bit, first_byte, large, objects_at, run_of, runs_at, same_run, same_span, small, spans_at, spans_like, spans_of_run}
+use Rattle.std.proofs.lemmas.Bool.{cases_Bool, cases_eq, cond-false, cond-true, eq-eqb, ne_eqb}
 use Rattle.tc_units.specs.Classes.{class_of}
 use Rattle.tc_units.specs.Units.{page_bytes}
 use Rattle.std.specs.List.{slice_get}
+use Rattle.std.proofs.lemmas.Bool.Decides.{nat_tests}
 use Rattle.holdings.proofs.StockMoves.{Stocked, stock_classes, stock_places}
 use Rattle.holdings.proofs.Sums.{bit_most, class_least, gap, least, shift}
 use Rattle.holdings.proofs.Finding.{frees_find}
@@ -73,19 +74,14 @@ module _ {m : Setup} {b : Books} {calls : List CallLine} (f : Facts m b calls) (
         let kept : (x : SpanRef) → spans_like x a.apart ≡ bit (same_span s x) + spans_like x apart = λ x. ap (spans_like x) first in
         let runs : (q : Run) → spans_of_run q a.apart ≡ bit (same_run (run_of s) q) + spans_of_run q apart = λ q. ap (spans_of_run q) first in
         let starts : (n : ℕ) → spans_at n a.apart ≡ bit (eqb (first_byte (run_of s)) n) + spans_at n apart = λ n. ap (spans_at n) first in
-        let there : (x : SpanRef) → 0 < g.owned x → 0 < spans_like x b.spans = λ x own. elim (cases_lt 0 (b.stock.owned x)) [
-          | inl old ↦ owned_there m b calls f x old
-          | inr new ↦ mapped_there m b calls f t a x at (let e = move.spans x in omega (arith, own, e, new, held x))
-        ] in
+        let there : (x : SpanRef) → 0 < g.owned x → 0 < spans_like x b.spans =
+        grind (arith, nat_tests, owned_there m b calls f, mapped_there m b calls f t a, move.spans, held) in
         moved f t a w at g b.heap b.spans b.names (calls ++ gets_line ∷ []) (kept_object f t a at label size g o rest is class empty st there)
         (live_object f t a at label size g o rest is class empty st there w (λ q none. let e = runs q in omega (arith, e, none))) (heap_facts f) cut (record {
           freeing = λ l x e. absurd (cc);
           spans = All-tail (IsOfClass m.rows) s apart (subst (All (IsOfClass m.rows)) first self.spans);
           mapped = λ x. omega (arith, self.mapped x, held x, kept x);
-          whole = λ q.
-              let e : spans_of_run q a.mapped ≡ bit (same_run (run_of s) q) + spans_of_run q mapped = ap (spans_of_run q) firstm in
-              let z : runs_like q a.off ≡ 0 = ap (runs_like q) clear in
-              omega (arith, self.whole q, runs q, e, z);
+          whole = grind (arith, self.whole, runs);
           offs = λ n. let z : runs_at n a.off ≡ 0 = ap (runs_at n) clear in omega (arith, z);
           cleared = λ q. omega (arith, self.cleared q, (idle_before (first_byte q)).0);
         }) (labels_got f t a at w refl label size (Block o (size_of m.rows a.class)) is refl)
@@ -105,12 +101,8 @@ module _ {m : Setup} {b : Books} {calls : List CallLine} (f : Facts m b calls) (
         (page_byte span o.0 holds_page) (page_byte h.span o.0 h.holds) in
         let same : span ≡ h.span = one_span m b calls f span h.span there h.there (sym runs) in
         elim h.is [
-          | inl small_one ↦
-              let kinds : k ≡ small_one.0 = one_number k small_one.0 (sym kind ∙ (ap (λ (x : SpanRef). x.kind) same ∙ small_one.1)) in
-              subst (λ j. 0 < b.stock.objects j o.0) (sym kinds) small_one.2
-          | inr large_one ↦
-              let kinds : Small (class_number k) ≡ Large = sym kind ∙ (ap (λ (x : SpanRef). x.kind) same ∙ ap (λ (x : SpanRef). x.kind) large_one.1) in
-              absurd (cc)
+          | inl small_one ↦ grind (arith, one_number k small_one.0 (sym kind ∙ (ap (λ (x : SpanRef). x.kind) same ∙ small_one.1)))
+          | inr large_one ↦ grind (arith)
         ]
 
     own_object : loose o.0 a.doing ≡ 1
@@ -139,10 +131,7 @@ module _ {m : Setup} {b : Books} {calls : List CallLine} (f : Facts m b calls) (
         let was : (g : Doing → ℕ) → g a.doing ≡ g (Holds label o) = λ g. ap g is in
         moved f t a w at b.stock b.heap b.spans b.names calls f.kept (still f t a w at b.heap b.spans b.names (λ x l. (l.live, l.unmapped, l.unheld t a at)))
         (heap_facts f) f.cut (record {
-          freeing = λ l x e.
-              let d : o.0 ≡ x.0 = ap (λ (y : Addr). y.0) (one_free label l o x e) in
-              let one : bit (eqb o.0 x.0) ≡ 1 = ap bit (eq-eqb o.0 x.0 d) in
-              omega (arith, one);
+          freeing = grind (arith, nat_tests, one_free label);
           spans = self.spans;
           mapped = self.mapped;
           whole = self.whole;
@@ -165,11 +154,7 @@ module _ {m : Setup} {b : Books} {calls : List CallLine} (f : Facts m b calls) (
                 | inl same ↦
                     let new : in_hand j n w ≡ bit (eqb o.0 n) + 0 = cond-true (eqb k j) (bit (eqb o.0 n) + 0) 0 (eq-eqb k j same) in
                     elim (cases_eq o.0 n) [
-                      | inl here ↦
-                          let u : sum_by (in_hand j n) b.accounts + b.stock.stored j n ≡ 0 =
-                          subst (λ i. sum_by (in_hand i n) b.accounts + b.stock.stored i n ≡ 0) same (subst (λ i. sum_by (in_hand k i) b.accounts + b.stock.stored k i ≡ 0) here untouched) in
-                          let ob : 0 < b.stock.objects j n = subst (λ i. 0 < b.stock.objects i n) same (subst (λ i. 0 < b.stock.objects k i) here found_object) in
-                          omega (arith, s, z, new, u, ob, bit_most (eqb o.0 n))
+                      | inl here ↦ grind (arith, untouched, found_object, bit_most (eqb o.0 n))
                       | inr away ↦ let e : bit (eqb o.0 n) ≡ 0 = ap bit (ne_eqb o.0 n away) in omega (arith, s, z, new, e, f.classes j n)
                     ]
                 | inr other ↦ let new : in_hand j n w ≡ 0 = cond-false (eqb k j) (bit (eqb o.0 n) + 0) 0 (ne_eqb k j other) in omega (arith, s, z, new, f.classes j n)

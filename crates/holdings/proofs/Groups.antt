@@ -4,20 +4,20 @@ use Rattle.tc_units.specs.declared.units.Addr.{Addr}
 use Rattle.std.specs.Prelude.{All, is_some, sum_by}
 use Rattle.holdings.specs.Kept.{AreKept}
 use Rattle.holdings.specs.Books.{Books, IsCut, Setup, Stock, class_number, over_classes}
-use Rattle.std.proofs.Common.{Bool, List, Option, Some, ap, arith, eqb, false, inl, inr, length, ltb, refl, subst, sym, true}
-use Rattle.std.proofs.Common.{ℕ, ◌&&◌, ◌+◌, ◌<◌, ◌∙◌, ◌∷◌, ◌≡◌, ◌≤◌, ◌⊎◌}
+use Rattle.std.proofs.Common.{Bool, List, Option, Some, arith, false, inl, inr, length, ltb, subst, true, ℕ, ◌&&◌, ◌+◌, ◌<◌, ◌∷◌, ◌≡◌, ◌≤◌, ◌⊎◌}
 use Rattle.tc_model.specs.declared.answers.CallLine.{CallLine}
 use Rattle.tc_units.specs.declared.spans.ClassRow.{ClassRow}
 use Rattle.tc_model.specs.Blocks.{Extent, answer_to, blocks_after, meets}
 use Rattle.holdings.specs.Facts.{Facts, IsLarge, IsRun, IsSelf, IsStanding, standing}
-use Rattle.holdings.specs.Runs.{IsPlaced, bit, block_of, first_byte, large, less, runs_at, runs_like, same_run, small, spans_at, spans_like, spans_of_run}
+use Rattle.holdings.specs.Runs.{IsPlaced, bit, block_of, large, less, runs_at, runs_like, same_run, small, spans_at, spans_like, spans_of_run}
 use Rattle.name_table.specs.declared.table.NameState.{NameState}
 use Rattle.tc_units.specs.declared.spans.Run.{Run}
 use Rattle.tc_units.specs.declared.spans.SpanRef.{SpanRef}
 use Rattle.holdings.specs.Moves.{books_with}
-use Rattle.std.proofs.lemmas.Bool.{cases_Bool, cases_eq, eq-eqb, false≢true, ne_eqb}
+use Rattle.std.proofs.lemmas.Bool.{cases_Bool, false≢true}
 use Rattle.tc_units.specs.Classes.{length_of}
 use Rattle.std.specs.List.{slice_get, slice_set}
+use Rattle.std.proofs.lemmas.Bool.Decides.{nat_tests}
 use Rattle.name_table.specs.Names.{state_of}
 use Rattle.holdings.proofs.Sums.{All-weaken, less_counts, like, same_run_is, same_run_refl, set_cases, shift, starting}
 
@@ -48,9 +48,7 @@ more_cases : (r q : Run) (heap : List Run) → 0 < runs_like q (r ∷ heap) → 
 more_cases r q heap some = grind (arith, cases_Bool, same_run_is)
 
 flip_and : (p q : Bool) → (p && q) ≡ false → (q && p) ≡ false
-flip_and true true is = is
-flip_and false true is = refl
-flip_and p q is = refl
+flip_and p q is = grind (arith)
 
 pub meets_flip : (x y : Extent) → meets x y ≡ false → meets y x ≡ false
 meets_flip x y apart = flip_and (ltb x.addr (y.addr + y.len)) (ltb y.addr (x.addr + x.len)) apart
@@ -61,28 +59,7 @@ module _ {m : Setup} {b : Books} {calls : List CallLine} (f : Facts m b calls) w
 
   -- a new run, and one that goes
   pub heap_more : (n : ℕ) (r : Run) → IsPlaced m.huge b.heap n r → HeapFacts m.huge (r ∷ b.heap)
-  heap_more n r placed =
-      record {
-        inside = λ q live. elim (more_cases r q b.heap live) [ inl same ↦ subst (IsRun m.huge) same (record { some = placed.some; inside = placed.inside }) | inr old ↦ f.inside q old ];
-        disjoint = λ q x live live' other.
-            elim (more_cases r q b.heap live) [
-              | inl same ↦ elim (more_cases r x b.heap live') [
-                | inl same' ↦ absurd (false≢true (sym other ∙ (ap (λ (y : Run). same_run q y) (sym same' ∙ same) ∙ same_run_refl q)))
-                | inr old' ↦ subst (λ (y : Run). meets (block_of y) (block_of x) ≡ false) same (placed.apart x old')
-              ]
-              | inr old ↦ elim (more_cases r x b.heap live') [
-                | inl same' ↦ subst (λ (y : Run). meets (block_of q) (block_of y) ≡ false) same' (meets_flip (block_of r) (block_of q) (placed.apart q old))
-                | inr old' ↦ f.disjoint q x old old' other
-              ]
-            ];
-        starts = λ k. elim (cases_eq (first_byte r) k) [
-          | inl same ↦
-              let fresh : runs_at k b.heap ≡ 0 = subst (λ j. runs_at j b.heap ≡ 0) same placed.fresh in
-              let e : bit (eqb (first_byte r) k) ≡ 1 = ap bit (eq-eqb (first_byte r) k same) in
-              omega (arith, fresh, e)
-          | inr other ↦ let e : bit (eqb (first_byte r) k) ≡ 0 = ap bit (ne_eqb (first_byte r) k other) in omega (arith, f.starts k, e)
-        ];
-      }
+  heap_more n r placed = grind (arith, nat_tests, more_cases, false≢true, same_run_refl, meets_flip)
 
   pub heap_less : (r : Run) → 0 < runs_like r b.heap → HeapFacts m.huge (less r b.heap)
   heap_less r there =
@@ -98,35 +75,17 @@ module _ {m : Setup} {b : Books} {calls : List CallLine} (f : Facts m b calls) w
     pub labels_still : ((x : ℕ) → pending x w ≡ pending x a) → ((x : ℕ) → unpublished x w ≡ unpublished x a) → ((x : ℕ) → untaken x w ≡ untaken x a)
         → ((x : ℕ) → mentions x w ≡ mentions x a) → ((x : ℕ) (v : Option Addr) → holding x v w ≡ holding x v a)
         → LabelFacts m.labels b.names (slice_set b.accounts t w) calls
-    labels_still p u n k h =
-        record {
-          count = f.names;
-          beyond = λ x past. let e = k x in omega (arith, f.labels x past, shift (mentions x) b.accounts t a w at, e);
-          once = λ x. let e = p x in omega (arith, f.once x, shift (pending x) b.accounts t a w at, e);
-          published = λ x. let e = u x in omega (arith, f.published x, shift (unpublished x) b.accounts t a w at, e);
-          taken = λ x. let e = n x in omega (arith, f.taken x, shift (untaken x) b.accounts t a w at, e);
-          tie = λ x v. let e = h x v in omega (arith, f.tie x v, shift (holding x v) b.accounts t a w at, e);
-        }
+    labels_still p u n k h = grind (arith, shift)
 
     -- and one with as much of runs and spans, where shards and calls may exchange spans
     pub spans_still : (owned : SpanRef → ℕ) → ((r : Run) → off_map r w ≡ off_map r a) → ((s : SpanRef) → owned s + transit s w ≡ b.stock.owned s + transit s a)
         → ((s : SpanRef) → clearing s w ≡ clearing s a) → SpanFacts owned b.heap b.spans (slice_set b.accounts t w)
-    spans_still owned o s c =
-        record {
-          map = λ r. let e = o r in omega (arith, f.map r, shift (off_map r) b.accounts t a w at, e);
-          own = λ k r. let e = s (small (class_number k) r) in omega (arith, f.own k r, shift (transit (small (class_number k) r)) b.accounts t a w at, e);
-          clear = λ r. let e = c (large r) in omega (arith, f.clear r, shift (clearing (large r)) b.accounts t a w at, e);
-        }
+    spans_still owned o s c = grind (arith, shift)
 
     -- and one with as much of addresses
     pub places_still : ((n : ℕ) → held_at n w ≡ held_at n a) → ((n : ℕ) → spans_at n w.apart ≡ spans_at n a.apart)
         → ((k n : ℕ) → in_hand k n w ≡ in_hand k n a) → PlaceFacts m.rows b.stock b.heap b.names (slice_set b.accounts t w)
-    places_still h s k =
-        record {
-          places = λ n. let e = h n in omega (arith, f.places n, shift (held_at n) b.accounts t a w at, e);
-          begins = λ n. let e = s n in omega (arith, f.begins n, shift (λ (x : Account). spans_at n x.apart) b.accounts t a w at, e);
-          classes = λ c n. let e = k c n in omega (arith, f.classes c n, shift (in_hand c n) b.accounts t a w at, e);
-        }
+    places_still h s k = grind (arith, shift)
 
     -- a large block still is one, and all blocks still stand
     pub large_still : (stock : Stock) (heap : List Run) (spans : List SpanRef) (names : List NameState) (x : Extent) (l : IsLarge b x)
@@ -151,25 +110,4 @@ module _ {m : Setup} {b : Books} {calls : List CallLine} (f : Facts m b calls) w
         → LabelFacts m.labels names (slice_set b.accounts t w) after
         → SpanFacts stock.owned heap spans (slice_set b.accounts t w) → PlaceFacts m.rows stock heap names (slice_set b.accounts t w)
         → Facts m (books_with b stock heap spans names t w) after
-    moved stock heap spans names after kept live h cut self l s p =
-        record {
-          kept = kept;
-          live = live;
-          inside = h.inside;
-          disjoint = h.disjoint;
-          starts = h.starts;
-          cut = cut;
-          selves = selves_with self;
-          names = l.count;
-          labels = l.beyond;
-          once = l.once;
-          published = l.published;
-          taken = l.taken;
-          tie = l.tie;
-          map = s.map;
-          own = s.own;
-          clear = s.clear;
-          places = p.places;
-          begins = p.begins;
-          classes = p.classes;
-        }
+    moved stock heap spans names after kept live h cut self l s p = grind (arith, selves_with)

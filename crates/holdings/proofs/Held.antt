@@ -9,13 +9,14 @@ use Rattle.std.proofs.Common.{List, Some, ap, arith, eqb, false, inl, inr, refl,
 use Rattle.tc_units.specs.declared.spans.Run.{Run}
 use Rattle.tc_units.specs.declared.spans.SpanRef.{SpanRef}
 use Rattle.tc_model.specs.Chains.{at}
-use Rattle.holdings.specs.Runs.{bit, first_byte, large, objects_at, run_of, runs_at, runs_like, same_run, spans_at, spans_like, spans_of_run}
+use Rattle.holdings.specs.Runs.{first_byte, large, objects_at, run_of, runs_at, runs_like, same_run, spans_at, spans_like}
 use Rattle.std.proofs.lemmas.Bool.{cases_Bool, cases_lt, cond-true, eq-eqb}
 use Rattle.std.proofs.lemmas.List.Sums.{get_or-le-sum_by}
 use Rattle.std.proofs.lemmas.List.{get_or_past}
 use Rattle.std.specs.List.{slice_get}
 use Rattle.name_table.specs.Names.{state_of}
 use Rattle.std.specs.Prelude.{sum_by}
+use Rattle.std.proofs.lemmas.Bool.Decides.{nat_tests}
 use Rattle.holdings.proofs.MapFacts.{HasByte, class_spans, mapped_class, mapped_there, objects_once, off_lives, once_live}
 use Rattle.holdings.proofs.MapFacts.{one_byte, one_span, owned_there, run_found, run_pages, span_lives, span_of, span_run}
 use Rattle.holdings.proofs.Sums.{class_counts, least, same_run_is, sum_of_both}
@@ -26,9 +27,7 @@ module _ (m : Setup) (b : Books) (calls : List CallLine) (f : Facts m b calls) w
   hands_taken t a n at some =
       let own : in_hand a.class n a ≡ objects_at n a.hand = cond-true (eqb a.class a.class) (objects_at n a.hand) 0 (eq-eqb a.class a.class refl) in
       let l = least (in_hand a.class n) b.accounts t a at in
-      let c = f.classes a.class n in
-      let o = f.cut.once a.class n in
-      record { once = omega (arith, own, l, c, o, some); object = omega (arith, own, l, c, o, some); free = omega (arith, own, l, c, o, some) }
+      grind (arith)
 
   -- the first byte of a live run
   pub first_in : (r : Run) (n : ℕ) → 0 < runs_like r b.heap → first_byte r ≡ n → HasByte r n
@@ -64,9 +63,7 @@ module _ (m : Setup) (b : Books) (calls : List CallLine) (f : Facts m b calls) w
         apart = λ s there.
             let live = span_lives m b calls f s there in
             let other : same_run r (run_of s) ≡ false = elim (cases_Bool (same_run r (run_of s))) [
-              | inl same ↦
-                  let e : spans_of_run (run_of s) b.spans ≡ 0 = ap (λ (x : Run). spans_of_run x b.spans) (sym (same_run_is r (run_of s) same)) ∙ o.1 in
-                  absurd (omega (arith, e, span_run s b.spans, there))
+              | inl same ↦ grind (arith, same_run_is r (run_of s) same, span_run s b.spans)
               | inr apart ↦ apart
             ] in
             run_pages r (run_of s) run.some (f.inside (run_of s) live).some (f.disjoint r (run_of s) o.0 live other);
@@ -99,13 +96,7 @@ module _ (m : Setup) (b : Books) (calls : List CallLine) (f : Facts m b calls) w
   name_least n x = grind (arith, cases_lt, get_or-le-sum_by, get_or_past)
 
   pub name_lives : (x : ℕ) (o : Addr) → state_of b.names x ≡ name.Published (Some o) → ((k : ℕ) × (0 < b.stock.objects k o.0)) ⊎ (runs_at o.0 b.heap ≡ 1)
-  name_lives x o is =
-      let own : named_at o.0 (state_of b.names x) ≡ 1 = ap (named_at o.0) is ∙ ap bit (eq-eqb o.0 o.0 refl) in
-      let l = name_least o.0 x in
-      elim (cases_lt 0 (over_classes m.rows (λ k. b.stock.objects k o.0))) [
-        | inl some ↦ inl (class_counts m.rows (λ k. b.stock.objects k o.0) some)
-        | inr none ↦ inr (omega (arith, own, l, f.places o.0, f.starts o.0, f.begins o.0, none))
-      ]
+  name_lives x o is = grind (arith, nat_tests, name_least o.0 x, class_counts m.rows (λ k. b.stock.objects k o.0))
 
 pub hands_are_taken : HandsAreTaken
 hands_are_taken m b calls t a n f at some = hands_taken m b calls f t a n at some

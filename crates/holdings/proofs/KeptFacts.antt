@@ -2,13 +2,14 @@
 use Rattle.std.proofs.Common.{Bool, ◌≡◌, ℕ, ◌+◌, ◌<◌, true, false, not, eqb, ltb, List, [], ◌∷◌, ◌++◌}
 use Rattle.std.proofs.Common.{Option, Some, None, refl, sym, ap, ◌∙◌, subst, arith, ◌⊎◌, inl, inr}
 use Rattle.std.specs.Prelude.{◌==◌, is_some, find, All}
-use Rattle.std.proofs.lemmas.Bool.{cases_Bool, eqb-true, eqb-false, lt-ltb, false≢true, or_parts, or_cases, cond-true, cond-false, and_from, eq-eqb, ne_eqb}
+use Rattle.std.proofs.lemmas.Bool.{cases_Bool, eqb-true, lt-ltb, false≢true, or_parts, or_cases, cond-true, cond-false, and_from, eq-eqb, ne_eqb}
 use Rattle.std.proofs.lemmas.List.Elements.{All-filter}
+use Rattle.std.proofs.lemmas.Bool.Decides.{nat_tests}
 use Rattle.tc_units.specs.declared.units.Addr.{Addr}
 use Rattle.tc_units.specs.declared.units.Label.{Label}
 use Rattle.tc_units.specs.declared.units.ThreadNo.{ThreadNo}
 use Rattle.tc_units.proofs.SortedFacts.{All-with_item}
-use Rattle.tc_model.specs.declared.calls.Call.TheVariants.{Malloc, Free, Release, Drain, Resize}
+use Rattle.tc_model.specs.declared.calls.Call.TheVariants.{Malloc, Free}
 use Rattle.tc_model.specs.declared.answers.Answer.{Answer}
 use Rattle.tc_model.specs.declared.answers.Answer.TheVariants.{Block, NoBlock, Freed, FreedNull}
 use Rattle.tc_model.specs.declared.answers.CallLine.{CallLine}
@@ -122,13 +123,7 @@ module _ {round : ℕ → ℕ} {huge : ℕ} {calls : List CallLine} (kept : AreK
         ]
 
     own_block : HasBlock (calls ++ line ∷ []) label.0 addr len
-    own_block =
-        let unfreed : freed_in label.0 calls ≡ false =
-        elim (cases_Bool (freed_in label.0 calls)) [ inl freed ↦ absurd (false≢true (ap is_some (sym new) ∙ kept.known label.0 freed)) | inr unfreed ↦ unfreed ] in
-        record {
-          answered = answer_to-push_new label.0 calls line new ∙ cond-true (eqb label.0 label.0) (Some (Block addr len)) None (eq-eqb label.0 label.0 refl);
-          kept = freed_in-push label.0 calls line ∙ rw unfreed refl;
-        }
+    own_block = grind (arith, nat_tests, false≢true, answer_to-push_new, freed_in-push)
 
     -- the block that a label finds
     found_now : (l : ℕ) (a : Addr) (n : ℕ) → HasBlock (calls ++ line ∷ []) l a n
@@ -163,10 +158,7 @@ other_allowed : (huge : ℕ) (round : ℕ → ℕ) (calls : List CallLine) (call
 other_allowed huge round calls x3 x4 is = grind (arith)
 
 pub other_label : (call : Call) (answer : Answer) → IsOther call answer → (l : ℕ) → (allocates l call ≡ false) × (frees l call ≡ false)
-other_label (Release pages) answer is l = (refl, refl)
-other_label (Drain cpu) answer is l = (refl, refl)
-other_label (Resize cpu class cap) answer is l = (refl, refl)
-other_label call answer is l = absurd is
+other_label call answer is l = grind (arith)
 
 pub other_blocks : (blocks : List Extent) (call : Call) (answer : Answer) → IsOther call answer → blocks_with blocks answer ≡ blocks
 other_blocks blocks x1 x2 is = grind (arith)
@@ -193,9 +185,7 @@ module _ {round : ℕ → ℕ} {huge : ℕ} {calls : List CallLine} (kept : AreK
 
     -- every other label's block is elsewhere
     others : (l : ℕ) (a : Addr) (n : ℕ) → HasBlock (calls ++ freeing ∷ []) l a n → HasBlock calls l a n × (addr.0 ≡ a.0 → ⊥)
-    others l a n hasl =
-        let before = has_block_before calls freeing l a n refl hasl in let unfreed : eqb label.0 l ≡ false = (kept_before calls freeing l hasl.kept).1 in
-        (before, λ e. eqb-false label.0 l unfreed (kept.distinct label.0 l addr len n has (subst (λ (x : Addr). HasBlock calls l x n) (sym (same_address addr a e)) before)))
+    others l a n hasl = grind (arith, nat_tests, has_block_before calls freeing l a n refl hasl, kept_before calls freeing l hasl.kept, same_address addr a)
 
     -- and so its label isn't the one that is freed
     unfreed : (b : Extent) (own : Labelled calls b) → not (b.addr == addr.0) ≡ true → eqb label.0 own.0 ≡ false

@@ -9,18 +9,19 @@ use Rattle.holdings.specs.Facts.{Facts, value_after, standing}
 use Rattle.tc_model.specs.declared.calls.Call.TheVariants.{Free, Malloc}
 use Rattle.tc_model.specs.declared.answers.Answer.TheVariants.{Freed}
 use Rattle.tc_units.specs.declared.units.Label.{Label}
-use Rattle.std.proofs.Common.{List, None, Option, Some, [], ap, arith, cond, eqb, false, inl, inr, length, refl, subst, sym}
+use Rattle.std.proofs.Common.{List, None, Option, Some, [], ap, arith, eqb, false, inl, inr, length, refl, subst, sym}
 use Rattle.std.proofs.Common.{true, ℕ, ◌&&◌, ◌++◌, ◌+◌, ◌<◌, ◌∙◌, ◌∷◌, ◌≡◌, ◌⊎◌}
 use Rattle.name_table.specs.declared.table.NameState.{NameState}
 use Rattle.tc_units.specs.declared.units.ThreadNo.{ThreadNo}
 use Rattle.tc_model.specs.Blocks.{answer_to}
 use Rattle.holdings.specs.Runs.{bit}
-use Rattle.std.proofs.lemmas.Bool.{cases_Bool, cases_eq, cases_lt, eq-eqb, false≢true, ne_eqb}
+use Rattle.std.proofs.lemmas.Bool.{cases_Bool, cases_lt, eq-eqb, false≢true}
 use Rattle.std.specs.Prelude.{is_some, sum_by}
 use Rattle.std.proofs.lemmas.List.{length-set}
 use Rattle.std.specs.List.{slice_get, slice_set}
 use Rattle.name_table.specs.Names.{state_of}
 use Rattle.std.proofs.lemmas.List.Sums.{sum_by-set}
+use Rattle.std.proofs.lemmas.Bool.Decides.{nat_tests}
 use Rattle.holdings.specs.Kept.{value_of}
 use Rattle.holdings.proofs.Groups.{LabelFacts}
 use Rattle.holdings.proofs.Standing.{answer_same, gain, lose, same_value_refl, standing_is}
@@ -35,18 +36,7 @@ is_some_none (Some a) e = absurd (omega arith)
 -- which labels have an answer, after one more allocation
 answered_gain : (calls : List CallLine) (thread : ThreadNo) (label : Label) (size : ℕ) (answer : Answer) → answer_to label.0 calls ≡ None → (x : ℕ)
     → bit (is_some (answer_to x (calls ++ record { thread = thread; call = Malloc label size; answer = answer } ∷ []))) ≡ bit (is_some (answer_to x calls)) + bit (eqb label.0 x)
-answered_gain calls thread label size answer none x =
-    let c : CallLine = record { thread = thread; call = Malloc label size; answer = answer } in
-    elim (cases_eq label.0 x) [
-      | inl same ↦
-          let n : answer_to x calls ≡ None = subst (λ y. answer_to y calls ≡ None) same none in
-          let e : eqb label.0 x ≡ true = eq-eqb label.0 x same in
-          let g : answer_to x (calls ++ c ∷ []) ≡ Some answer = answer_to-push_new x calls c n ∙ ap (λ b. cond b (Some answer) None) e in
-          rw (g, n, e) (omega arith)
-      | inr apart ↦
-          let e : eqb label.0 x ≡ false = ne_eqb label.0 x apart in
-          rw (answer_same calls c x e, e) (omega arith)
-    ]
+answered_gain calls thread label size answer none x = grind (arith, nat_tests, answer_to-push_new, answer_same)
 
 -- a call that gives a label back, with the address that it holds of it
 pub record Returns (label : Label) (o : Addr) (d : Doing) : Type 0 where

@@ -10,15 +10,16 @@ use Rattle.holdings.specs.Facts.{Facts, IsLarge, IsObject, IsStanding}
 use Rattle.tc_model.specs.declared.calls.Call.TheVariants.{Free, Malloc}
 use Rattle.holdings.specs.Runs.{IsPlaced, address_of, bit, block_of, first_byte, large, less, run_of, runs_like, same_run, small, spans_at, spans_like, spans_of_run}
 use Rattle.tc_units.specs.declared.units.Label.{Label}
-use Rattle.std.proofs.Common.{List, None, Some, [], ap, arith, eqb, false, inl, inr, ltb, not, refl, subst, sym, ℕ, ◌*◌, ◌++◌, ◌+◌, ◌<◌, ◌∙◌, ◌∷◌, ◌≡◌, ◌≤◌}
+use Rattle.std.proofs.Common.{List, None, Some, [], ap, arith, eqb, false, inl, inr, ltb, not, refl, subst, sym, ℕ, ◌*◌, ◌++◌, ◌+◌, ◌<◌, ◌∷◌, ◌≡◌, ◌≤◌}
 use Rattle.tc_units.specs.declared.spans.Run.{Run}
 use Rattle.tc_units.specs.declared.spans.SpanRef.{SpanRef}
 use Rattle.holdings.specs.Moves.{about, books_with}
-use Rattle.std.proofs.lemmas.Bool.{and_from, and_parts, cases_Bool, cases_eq, cases_lt, eq-eqb, false≢true, lt-ltb, ltb-true, ne_eqb}
+use Rattle.std.proofs.lemmas.Bool.{and_from, and_parts, cases_Bool, cases_eq, cases_lt, false≢true, lt-ltb, ltb-true, ne_eqb}
 use Rattle.tc_units.specs.Classes.{length_of}
 use Rattle.tc_units.specs.Units.{page_bytes, pages_holding}
 use Rattle.tc_units.proofs.SortedFacts.{All-with_item}
 use Rattle.std.specs.List.{slice_get}
+use Rattle.std.proofs.lemmas.Bool.Decides.{nat_tests}
 use Rattle.holdings.proofs.Sums.{All-kept, All-weaken, less_counts, like, none_counts, none_meets, one_at, same_run_is, same_run_refl, set_cases, shift, starting, two}
 use Rattle.holdings.proofs.CallFacts.{blocks_after-push}
 use Rattle.holdings.proofs.MapFacts.{apart_lives, like_at, mapped_there, off_lives, once_live, one_start, owned_there, same_start, span_at_found, span_found, span_lives, span_of, span_run}
@@ -125,10 +126,7 @@ module _ {m : Setup} {b : Books} {calls : List CallLine} (f : Facts m b calls) (
               absurd (elim (cases_lt 0 (spans_of_run r x.mapped)) [
                 | inl mapped ↦ let u = span_found r x.mapped mapped in unmapped u.0 (mapped_there m b calls f i x u.0 other u.2) u.1
                 | inr unmapped_there ↦ elim (cases_eq i t) [
-                  | inl here ↦
-                      let d : x ≡ a = one_at b.accounts i t x a other at here in
-                      let z : spans_of_run r x.apart ≡ 0 = ap (λ (y : Account). spans_of_run r y.apart) d ∙ ap (spans_of_run r) empty in
-                      omega (arith, z, again)
+                  | inl here ↦ grind (arith, one_at b.accounts i t x a other)
                   | inr apart ↦ omega (arith, two (off_map r) b.accounts i t x a apart other at, some, again, unmapped_there, (f.selves i x other).whole r, f.map r, once_live m b calls f r)
                 ]
               ])
@@ -155,15 +153,7 @@ module _ {m : Setup} {b : Books} {calls : List CallLine} (f : Facts m b calls) (
       moved f t a w at b.stock (less r b.heap) b.spans b.names (calls ++ c ∷ []) (kept_freed f.kept (record { 0 = t }) label (address_of r) block.0 block.1)
       (subst (All (IsStanding m (books_with b b.stock (less r b.heap) b.spans b.names t w))) (sym (blocks_after-push calls c))
       (All-kept (IsStanding m b) (IsStanding m (books_with b b.stock (less r b.heap) b.spans b.names t w)) (λ (x : Extent). not (eqb x.addr (first_byte r))) _ (λ x stands apart. elim stands [
-        | inl l ↦ inl (large_still f t a w at b.stock (less r b.heap) b.spans b.names x l (
-            let z : bit (same_run r l.run) ≡ 0 = elim (cases_Bool (same_run r l.run)) [
-              | inl same ↦
-                  let e : x.addr ≡ first_byte r = ap (λ (y : Extent). y.addr) l.is ∙ same_start l.run r (first_byte r) (sym (same_run_is r l.run same)) refl in
-                  absurd (false≢true (sym (ap not (eq-eqb x.addr (first_byte r) e)) ∙ apart))
-              | inr other ↦ ap bit other
-            ] in
-            let e = gone l.run in
-            omega (arith, e, z, l.live)) l.unmapped (l.unheld t a at))
+        | inl l ↦ grind (arith, nat_tests, large_still f t a w, same_start l.run r (first_byte r), same_run_is r l.run, gone l.run, l.unheld t a)
         | inr o ↦ inr (record { class = o.class; object = o.object; size = o.size })
       ]) f.live)) (heap_less f r there) f.cut (record {
         freeing = λ l o e. absurd (cc);
@@ -181,11 +171,7 @@ module _ {m : Setup} {b : Books} {calls : List CallLine} (f : Facts m b calls) (
         begins = λ n.
             let e = less_counts r b.heap there (starting n) in
             elim (cases_eq (first_byte r) n) [
-              | inl same ↦
-                  let p : b.stock.begins (first_byte r) ≡ b.stock.begins n = ap b.stock.begins same in
-                  let q : sum_by (λ (x : Account). spans_at (first_byte r) x.apart) b.accounts ≡ sum_by (λ (x : Account). spans_at n x.apart) b.accounts =
-                  ap (λ k. sum_by (λ (x : Account). spans_at k x.apart) b.accounts) same in
-                  omega (arith, p, q, none.0, none.1, shift (λ (x : Account). spans_at n x.apart) b.accounts t a w at)
+              | inl same ↦ grind (arith, shift (λ (x : Account). spans_at n x.apart) b.accounts t a w)
               | inr other ↦ omega (arith, ap bit (ne_eqb (first_byte r) n other), e, f.begins n, shift (λ (x : Account). spans_at n x.apart) b.accounts t a w at)
             ];
         classes = λ k n. omega (arith, f.classes k n, shift (in_hand k n) b.accounts t a w at);

@@ -17,6 +17,7 @@ use Rattle.holdings.specs.Runs.{bit, block_of, first_byte, large, run_of, runs_a
 use Rattle.tc_model.specs.Blocks.{meets}
 use Rattle.tc_units.specs.Units.{page_bytes}
 use Rattle.std.specs.List.{slice_get}
+use Rattle.std.proofs.lemmas.Bool.Decides.{nat_tests}
 use Rattle.tc_units.specs.declared.units.Class.{Class}
 use Rattle.holdings.proofs.Sums.{among, bit_is, class_alone, class_counts, counts_both, counts_most, least, like, like_span, of_run, same_run_is}
 use Rattle.holdings.proofs.Sums.{same_run_refl, same_run_start, same_span_is, same_span_refl, same_span_run, starting, starting_span}
@@ -67,11 +68,7 @@ span_at_found n xs some =
 -- what all spans have
 pub span_all : (P : SpanRef → Type 0) (s : SpanRef) (xs : List SpanRef) → All P xs → 0 < spans_like s xs → P s
 span_all P s [] all some = absurd (omega arith)
-span_all P s (x ∷ xs) all some =
-    elim (cases_Bool (same_span x s)) [
-      | inl is ↦ subst P (same_span_is x s is) (All-head P x xs all)
-      | inr other ↦ let z : bit (same_span x s) ≡ 0 = ap bit other in span_all P s xs (All-tail P x xs all) (omega (arith, z))
-    ]
+span_all P s (x ∷ xs) all some = grind (arith, nat_tests, span_all P s xs (All-tail P x xs all), same_span_is, All-head, All-tail)
 
 pub all_spans : (P : SpanRef → Type 0) (xs : List SpanRef) → ((s : SpanRef) → 0 < spans_like s xs → P s) → All P xs
 all_spans P [] each = All-nil P
@@ -157,13 +154,7 @@ module _ (m : Setup) (b : Books) (calls : List CallLine) (f : Facts m b calls) w
 
   -- a span that a call holds lives
   pub apart_lives : (i : ℕ) (a : Account) (r : Run) → slice_get b.accounts i ≡ Some a → 0 < spans_of_run r a.apart → 0 < runs_like r b.heap
-  apart_lives i a r at there =
-      elim (cases_lt 0 (spans_of_run r a.mapped)) [
-        | inl some ↦
-            let s = span_found r a.mapped some in
-            subst (λ (x : Run). 0 < runs_like x b.heap) s.1 (span_lives s.0 (mapped_there i a s.0 at s.2))
-        | inr none ↦ (off_lives i a r at (omega (arith, there, none, (f.selves i a at).whole r))).0
-      ]
+  apart_lives i a r at there = grind (arith, nat_tests, span_found, span_lives, mapped_there, off_lives)
 
   -- an object's span
   pub record Span (k n : ℕ) : Type 0 where
@@ -183,18 +174,7 @@ module _ (m : Setup) (b : Books) (calls : List CallLine) (f : Facts m b calls) w
       let l = f.cut.lies k n some in
       let there = owned_there l.span l.owned in
       let z = f.cut.some k n some in
-      record {
-        span = l.span;
-        owned = l.owned;
-        there = there;
-        live = span_lives l.span there;
-        kind = l.kind;
-        class = f.cut.class k n some;
-        some = z;
-        from = l.from;
-        to = l.to;
-        byte = (l.from, omega (arith, l.to, z));
-      }
+      grind (arith, span_lives l.span there)
 
   -- no object is in a large block
   pub no_object : (r : Run) → 0 < spans_like (large r) b.spans → over_classes m.rows (λ k. b.stock.objects k (first_byte r)) ≡ 0

@@ -7,12 +7,13 @@ use Rattle.tc_model.specs.declared.answers.CallLine.{CallLine}
 use Rattle.holdings.specs.Facts.{Facts}
 use Rattle.holdings.specs.Runs.{IsPlaced, address_of, bit, first_byte, large, less, run_of, runs_like, same_run, same_span, small, spans_at, spans_like, spans_of_run, without}
 use Rattle.tc_units.specs.declared.units.Label.{Label}
-use Rattle.std.proofs.Common.{List, Some, [], ap, arith, eqb, inl, inr, length, refl, subst, sym, ℕ, ◌+◌, ◌<◌, ◌∙◌, ◌∷◌, ◌≡◌}
+use Rattle.std.proofs.Common.{List, Some, [], ap, arith, eqb, inl, inr, length, refl, subst, ℕ, ◌+◌, ◌<◌, ◌∙◌, ◌∷◌, ◌≡◌}
 use Rattle.tc_units.specs.declared.spans.Run.{Run}
 use Rattle.tc_units.specs.declared.spans.SpanRef.{SpanRef}
 use Rattle.holdings.specs.Moves.{books_with}
-use Rattle.std.proofs.lemmas.Bool.{cases_Bool, cases_eq, eq-eqb, ne_eqb}
+use Rattle.std.proofs.lemmas.Bool.{cases_eq, eq-eqb, ne_eqb}
 use Rattle.std.specs.List.{slice_get}
+use Rattle.std.proofs.lemmas.Bool.Decides.{nat_tests}
 use Rattle.holdings.proofs.Sums.{bit_most, least, less_counts, like, like_span, none_counts, of_run, one_at, same_run_is, same_run_refl}
 use Rattle.holdings.proofs.Sums.{same_run_start, same_span_refl, same_span_run, shift, starting, two, without_counts}
 use Rattle.holdings.proofs.Groups.{heap_facts, heap_less, heap_more, labels_still, moved, places_still, still}
@@ -32,10 +33,7 @@ module _ {m : Setup} {b : Books} {calls : List CallLine} (f : Facts m b calls) (
         omega (arith, l.live),
         l.unmapped,
         (
-            let z : bit (same_run r l.run) ≡ 0 = elim (cases_Bool (same_run r l.run)) [
-              | inl same ↦ absurd (omega (arith, ap (λ (q : Run). runs_like q b.heap) (same_run_is r l.run same), l.live, placed.fresh, like_at r b.heap))
-              | inr other ↦ ap bit other
-            ] in
+            let z : bit (same_run r l.run) ≡ 0 = grind (arith, nat_tests, same_run_is r l.run, like_at r b.heap) in
             omega (arith, z, l.unheld t a at)),
       ))) (heap_more f (pages_of m.rows a.class) r placed) f.cut (record {
         freeing = self.freeing;
@@ -66,10 +64,7 @@ module _ {m : Setup} {b : Books} {calls : List CallLine} (f : Facts m b calls) (
         freeing = self.freeing;
         spans = self.spans;
         mapped = self.mapped;
-        whole = λ q. elim (cases_Bool (same_run r q)) [
-          | inl same ↦ let e : spans_of_run q a.apart ≡ 0 = ap (λ (x : Run). spans_of_run x a.apart) (sym (same_run_is r q same)) ∙ none in omega (arith, e)
-          | inr other ↦ let z : bit (same_run r q) ≡ 0 = ap bit other in omega (arith, self.whole q, off q, z)
-        ];
+        whole = grind (arith, nat_tests, same_run_is r, self.whole, off);
         offs = λ n. omega arith;
         cleared = self.cleared;
       }) (labels_still f t a w at (λ x. refl) (λ x. refl) (λ x. refl) (λ x. refl) (λ x v. refl)) (record {
@@ -109,12 +104,8 @@ module _ {m : Setup} {b : Books} {calls : List CallLine} (f : Facts m b calls) (
       let own : loose (first_byte r) a.doing ≡ 1 = ap (loose (first_byte r)) is ∙ ap bit (eq-eqb (first_byte r) (first_byte r) refl) in
       none_counts (clearing (large r)) b.accounts (λ i x other.
       elim (cases_eq i t) [
-        | inl same ↦
-            let d : x ≡ a = one_at b.accounts i t x a other at same in
-            ap (λ (y : Account). spans_like (large r) y.clears) d ∙ ap (spans_like (large r)) empty
-        | inr apart ↦
-            (let both = two (held_at (first_byte r)) b.accounts i t x a apart other at in
-            omega (arith, own, both, (f.selves i x other).cleared r, f.places (first_byte r), f.starts (first_byte r), no_object m b calls f r there))
+        | inl same ↦ grind (arith, one_at b.accounts i t x a other)
+        | inr apart ↦ grind (arith, two (held_at (first_byte r)) b.accounts i t x a apart other, no_object m b calls f r there)
       ])
 
   pub finds_run : (label : Label) (r : Run) → a.doing ≡ Holds label (address_of r) → 0 < spans_like (large r) b.spans
@@ -134,15 +125,7 @@ module _ {m : Setup} {b : Books} {calls : List CallLine} (f : Facts m b calls) (
       }) (labels_still f t a w at (λ x. refl) (λ x. refl) (λ x. refl) (λ x. refl) (λ x v. refl)) (record {
         map = λ q. omega (arith, f.map q, shift (off_map q) b.accounts t a w at);
         own = λ k q. omega (arith, f.own k q, shift (transit (small (class_number k) q)) b.accounts t a w at);
-        clear = λ q. elim (cases_Bool (same_run r q)) [
-          | inl same ↦
-              let e : spans_like (large r) b.spans ≡ spans_like (large q) b.spans = ap (λ (x : Run). spans_like (large x) b.spans) (same_run_is r q same) in
-              let s : sum_by (clearing (large r)) b.accounts ≡ sum_by (clearing (large q)) b.accounts = ap (λ (x : Run). sum_by (clearing (large x)) b.accounts) (same_run_is r q same) in
-              omega (arith, shift (clearing (large q)) b.accounts t a w at, none (large q), e, s, there, nobody_clears label r is there empty, bit_most (same_span (large r) (large q)))
-          | inr other ↦
-              let z : bit (same_run r q) ≡ 0 = ap bit other in
-              omega (arith, f.clear q, shift (clearing (large q)) b.accounts t a w at, none (large q), same_span_run (large r) (large q), z)
-        ];
+        clear = grind (arith, nat_tests, same_run_is r, shift, nobody_clears label r is there empty, bit_most, same_span_run (large r));
       }) (places_still f t a w at (λ n. refl) (λ n. refl) (λ k n. refl))
 
   -- and its span goes from the map

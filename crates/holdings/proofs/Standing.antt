@@ -1,13 +1,12 @@
 -- What one more call makes of the values of labels.
-use Rattle.std.proofs.Common.{◌≡◌, ℕ, ◌+◌, ◌<◌, Bool, true, false, ◌||◌, ◌&&◌, eqb, cond, List, [], ◌∷◌}
-use Rattle.std.proofs.Common.{◌++◌, Option, Some, None, refl, ap, ◌∙◌, arith}
-use Rattle.std.proofs.lemmas.Bool.{cases_eq, eq-eqb, ne_eqb, eqb-true}
+use Rattle.std.proofs.Common.{◌≡◌, ℕ, ◌+◌, ◌<◌, Bool, true, false, ◌||◌, ◌&&◌, eqb, cond, List, [], ◌∷◌, ◌++◌, Option, Some, None, refl, ap, ◌∙◌, arith}
+use Rattle.std.proofs.lemmas.Bool.{cases_eq, eq-eqb, ne_eqb}
 use Rattle.tc_units.specs.declared.units.Addr.{Addr}
 use Rattle.tc_units.specs.declared.units.Label.{Label}
 use Rattle.tc_units.specs.declared.units.ThreadNo.{ThreadNo}
 use Rattle.tc_model.specs.declared.calls.Call.TheVariants.{Malloc, Free}
 use Rattle.tc_model.specs.declared.answers.Answer.{Answer}
-use Rattle.tc_model.specs.declared.answers.Answer.TheVariants.{Block, NoBlock}
+use Rattle.tc_model.specs.declared.answers.Answer.TheVariants.{NoBlock}
 use Rattle.tc_model.specs.declared.answers.CallLine.{CallLine}
 use Rattle.tc_model.specs.Blocks.{answer_to, freed_in, allocates, frees, FreesNull}
 use Rattle.holdings.specs.Kept.{HasBlock, IsOfMalloc, value_of}
@@ -48,10 +47,7 @@ pub lose : (calls : List CallLine) (thread : ThreadNo) (label : Label) (answer :
 lose calls thread label answer u has x v = grind (arith, cases_eq, eq-eqb, eqb, freed_in-push, ne_eqb, or_true, value_same)
 
 pub same_value_is : (u v : Option Addr) → same_value u v ≡ true → u ≡ v
-same_value_is None None is = refl
-same_value_is None (Some b) is = absurd (cc)
-same_value_is (Some a) None is = absurd (cc)
-same_value_is (Some a) (Some b) is = ap (λ (n : ℕ). Some (record { 0 = n })) (eqb-true a.0 b.0 is)
+same_value_is u v is = grind (arith)
 
 pub same_value_refl : (v : Option Addr) → same_value v v ≡ true
 same_value_refl None = refl
@@ -73,27 +69,16 @@ pub record HasAnswer (calls : List CallLine) (x : ℕ) (v : Option Addr) : Type 
 
 has_answer_by : (calls : List CallLine) (x : ℕ) (v : Option Addr) (b : Bool) → freed_in x calls ≡ b
     → (o : Option Answer) → answer_to x calls ≡ o → cond b None (value_by o) ≡ Some v → HasAnswer calls x v
-has_answer_by calls x v true freed o is has = absurd (cc)
-has_answer_by calls x v false freed None is has = absurd (cc)
-has_answer_by calls x v false freed (Some answer) is has = record { answer = answer; answered = is; value = cc; kept = freed }
+has_answer_by calls x v b freed o is has = grind (arith)
 
 pub has_answer : (calls : List CallLine) (x : ℕ) (v : Option Addr) → value_after calls x ≡ Some v → HasAnswer calls x v
 has_answer calls x v has = has_answer_by calls x v (freed_in x calls) refl (answer_to x calls) refl has
 
-block_by : (answer : Answer) (a : Addr) → value_of answer ≡ Some a → (n : ℕ) × (answer ≡ Block a n)
-block_by (Block addr len) a is = (len, ap (λ (x : Addr). Block x len) cc)
-block_by answer a is = absurd (cc)
-
 pub has_block : (calls : List CallLine) (x : ℕ) (a : Addr) → value_after calls x ≡ Some (Some a) → (n : ℕ) × HasBlock calls x a n
-has_block calls x a has =
-    let h = has_answer calls x (Some a) has in
-    let b = block_by h.answer a h.value in
-    (b.0, record { answered = h.answered ∙ ap (λ (o : Answer). Some o) b.1; kept = h.kept })
+has_block calls x a has = grind (arith)
 
 null_by : (answer : Answer) → IsOfMalloc answer → value_of answer ≡ None → answer ≡ NoBlock
-null_by NoBlock of is = refl
-null_by (Block addr len) of is = absurd (cc)
-null_by answer of is = absurd of
+null_by answer of is = grind (arith)
 
 pub has_null : (calls : List CallLine) (x : ℕ) → ((answer : Answer) → answer_to x calls ≡ Some answer → IsOfMalloc answer) → value_after calls x ≡ Some None → FreesNull calls x
 has_null calls x of has =

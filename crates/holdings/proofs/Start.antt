@@ -6,14 +6,14 @@ use Rattle.tc_units.specs.declared.units.Addr.{Addr}
 use Rattle.std.specs.Prelude.{All, sum_by}
 use Rattle.std.proofs.lemmas.List.Elements.{All-head, All-nil, All-tail}
 use Rattle.holdings.specs.Laws.{FirstHolds, HasNothing}
-use Rattle.holdings.specs.Books.{IsOfClass, Setup, class_number}
+use Rattle.holdings.specs.Books.{IsOfClass, Setup}
 use Rattle.holdings.specs.Facts.{IsSelf}
 use Rattle.tc_units.specs.declared.units.Label.{Label}
-use Rattle.std.proofs.Common.{List, Option, Some, [], ap, arith, eqb, inl, inr, length, refl, replicate, subst, suc, sym, zero, ℕ, ◌&&◌, ◌∙◌, ◌∷◌, ◌≡◌}
+use Rattle.std.proofs.Common.{List, Option, Some, [], ap, arith, eqb, length, refl, replicate, suc, zero, ℕ, ◌&&◌, ◌∙◌, ◌∷◌, ◌≡◌}
 use Rattle.tc_units.specs.declared.spans.Run.{Run}
 use Rattle.tc_units.specs.declared.spans.SpanRef.{SpanRef}
-use Rattle.holdings.specs.Runs.{bit, large, objects_at, runs_at, runs_like, small, spans_at, spans_like, spans_of_run}
-use Rattle.std.proofs.lemmas.Bool.{cases_Bool, cond-false, cond-true, eq-eqb}
+use Rattle.holdings.specs.Runs.{bit, large, runs_at, runs_like, spans_at}
+use Rattle.std.proofs.lemmas.Bool.{eq-eqb}
 use Rattle.holdings.proofs.Sums.{class_zero, of_all}
 use Rattle.std.proofs.lemmas.List.{length-replicate}
 use Rattle.holdings.proofs.CallFacts.{IsBlockRun-none}
@@ -21,6 +21,7 @@ use Rattle.holdings.proofs.Standing.{same_value_refl}
 use Rattle.name_table.specs.Names.{state_of}
 use Rattle.std.proofs.lemmas.List.Sums.{sum_by-cons}
 use Rattle.std.proofs.lemmas.List.Folds.{sum_by-replicate}
+use Rattle.std.proofs.lemmas.Bool.Decides.{nat_tests}
 use Rattle.name_table.specs.declared.table.NameState.TheVariants as name
 
 name_at : (n x : ℕ) → state_of (replicate n name.Unpublished) x ≡ name.Unpublished
@@ -61,71 +62,26 @@ record Zero (a : Account) : Type 0 where
   pub clear : (s : SpanRef) → clearing s a ≡ 0
 
 zero_of : (a : Account) → HasNothing a → Zero a
-zero_of a h =
-    let d = idle a.doing h.value in
-    record {
-      alike = λ x. omega (arith, d.publishes x);
-      held = λ n.
-          let p : objects_at n a.hand ≡ 0 = ap (objects_at n) h.hand in
-          let q : spans_at n a.apart ≡ 0 = ap (spans_at n) h.apart in
-          omega (arith, d.free n, p, q);
-      hand = λ k n.
-          let p : objects_at n a.hand ≡ 0 = ap (objects_at n) h.hand in
-          elim (cases_Bool (eqb a.class k)) [
-            | inl same ↦ cond-true (eqb a.class k) (objects_at n a.hand) 0 same ∙ p
-            | inr other ↦ cond-false (eqb a.class k) (objects_at n a.hand) 0 other
-          ];
-      off = λ r. ap (runs_like r) h.off;
-      apart = λ n. ap (spans_at n) h.apart;
-      map = λ s. ap (spans_like s) h.mapped;
-      clear = λ s. ap (spans_like s) h.clears;
-    }
+zero_of a h = grind (arith, nat_tests, idle a.doing h.value)
 
 sums_alike : (f g : Account → ℕ) (xs : List Account) → All HasNothing xs → ((a : Account) → Zero a → f a ≡ g a) → sum_by f xs ≡ sum_by g xs
 sums_alike f g [] all same = refl
 sums_alike f g (x ∷ xs) all same = omega (arith, same x (zero_of x (All-head HasNothing x xs all)), sums_alike f g xs (All-tail HasNothing x xs all) same, sum_by-cons f x xs, sum_by-cons g x xs)
 
 self_of : (m : Setup) (a : Account) → HasNothing a → IsSelf m a
-self_of m a h =
-    let z = zero_of a h in
-    let d = idle a.doing h.value in
-    record {
-      freeing = λ label addr is. absurd (d.frees label addr is);
-      spans = subst (All (IsOfClass m.rows)) (sym h.apart) (All-nil (IsOfClass m.rows));
-      mapped = λ s. let p = z.map s in omega (arith, p);
-      whole = λ r. let p : spans_of_run r a.apart ≡ 0 = ap (spans_of_run r) h.apart in omega (arith, p);
-      offs = λ n. let p : runs_at n a.off ≡ 0 = ap (runs_at n) h.off in omega (arith, p);
-      cleared = λ r. let p = z.clear (large r) in omega (arith, p);
-    }
+self_of m a h = grind (arith, zero_of a h, idle a.doing h.value, All-nil (IsOfClass m.rows))
 
 pub holds_at_first : FirstHolds
 holds_at_first m b h =
     let zero_sum : (g : Account → ℕ) → ((a : Account) → HasNothing a → g a ≡ 0) → sum_by g b.accounts ≡ 0 = λ g. none HasNothing g b.accounts h.accounts in
     let named : (x : ℕ) → state_of b.names x ≡ name.Unpublished = λ x. ap (λ ns. state_of ns x) h.names ∙ name_at m.labels x in
     record {
-      kept = record {
-        run = IsBlockRun-none (length_of m.rows) m.huge;
-        some = λ i d below. absurd (omega arith);
-        stands = λ label addr len has. let e = has.answered in absurd (cc);
-        distinct = λ x y addr n k has hasm. let e = has.answered in absurd (cc);
-        answers = λ label answer is. absurd (cc);
-        labelled = λ i d below. absurd (omega arith);
-        known = λ label is. absurd (cc);
-      };
+      kept = grind (arith, IsBlockRun-none (length_of m.rows) m.huge);
       live = λ i d below. absurd (omega arith);
       inside = λ r live. let e : runs_like r b.heap ≡ 0 = ap (runs_like r) h.heap in absurd (omega (arith, e, live));
       disjoint = λ r x live. let e : runs_like r b.heap ≡ 0 = ap (runs_like r) h.heap in absurd (omega (arith, e, live));
       starts = λ n. let e : runs_at n b.heap ≡ 0 = ap (runs_at n) h.heap in omega (arith, e);
-      cut = record {
-        once = λ k n. omega (arith, h.objects k n);
-        apart = λ k n o some. absurd (omega (arith, some, h.objects k n));
-        class = λ k n some. absurd (omega (arith, some, h.objects k n));
-        some = λ k n some. absurd (omega (arith, some, h.objects k n));
-        lies = λ k n some. absurd (omega (arith, some, h.objects k n));
-        kinds = λ s some. absurd (omega (arith, some, h.owned s));
-        started = λ s. omega (arith, h.owned s);
-        begun = λ n some. absurd (omega (arith, some, h.begins n));
-      };
+      cut = grind (arith, h.objects, h.owned, h.begins);
       selves = λ i a is. self_of m a (of_all HasNothing b.accounts i a h.accounts is);
       names = ap (λ ns. length ns) h.names ∙ length-replicate m.labels name.Unpublished;
       labels = h.labels;
@@ -136,13 +92,8 @@ holds_at_first m b h =
           omega (arith, h.once x, p, e);
       taken = λ x. let p : _ = ap (λ q. bit (is_taken q)) (named x) in omega (arith, h.taken x, p);
       tie = λ x v. let p : _ = ap (λ q. bit (means v q)) (named x) in omega (arith, p, zero_sum (holding x v) (λ a z. z.value x v));
-      map = λ r.
-          let p : _ = ap (spans_of_run r) h.spans in
-          let q : _ = ap (runs_like r) h.heap in
-          omega (arith, p, q, zero_sum (off_map r) (λ a z. (zero_of a z).off r));
-      own = λ k r.
-          let p : _ = ap (spans_like (small (class_number k) r)) h.spans in
-          omega (arith, p, h.owned (small (class_number k) r), zero_sum (transit (small (class_number k) r)) (λ a z. (zero_of a z).map (small (class_number k) r)));
+      map = grind (arith, zero_sum, zero_of);
+      own = grind (arith, h.owned, zero_sum, zero_of);
       clear = λ r. omega (arith, zero_sum (clearing (large r)) (λ a z. (zero_of a z).clear (large r)));
       places = λ n.
           let p : _ = ap (runs_at n) h.heap in

@@ -3,7 +3,7 @@ use Rattle.holdings.specs.Accounts.{Account, Frees, holding, in_hand, loose, mea
 use Rattle.tc_units.specs.declared.units.Addr.{Addr}
 use Rattle.holdings.specs.Books.{Books, IsCut, Setup, Stock, class_number, over_classes, size_of}
 use Rattle.std.proofs.Common.{Bool, List, None, Some, ap, arith, cond, eqb, false, inl, inr, length, ltb, option_map, refl}
-use Rattle.std.proofs.Common.{subst, sym, true, ℕ, ◌+◌, ◌<◌, ◌∙◌, ◌≡◌, ◌≢◌, ◌≤◌, ◌⊎◌}
+use Rattle.std.proofs.Common.{subst, true, ℕ, ◌+◌, ◌<◌, ◌∙◌, ◌≡◌, ◌≢◌, ◌≤◌, ◌⊎◌}
 use Rattle.tc_model.specs.declared.answers.CallLine.{CallLine}
 use Rattle.tc_units.specs.declared.spans.ClassRow.{ClassRow}
 use Rattle.tc_model.specs.Blocks.{Extent, frees, meets}
@@ -26,7 +26,6 @@ use Rattle.holdings.proofs.Quiet.{holder}
 use Rattle.holdings.proofs.Groups.{large_still}
 use Rattle.holdings.proofs.Held.{name_least, objects_one}
 use Rattle.holdings.proofs.Standing.{same_value_refl}
-use Rattle.name_table.specs.declared.table.NameState.TheVariants as name
 
 one_size : (rows : List ClassRow) (size k : ℕ) (b : Bool) → ltb (position_or_len (serves size) rows) (length rows) ≡ b
     → option_map (λ (n : ℕ). class_number n) (cond b (Some (position_or_len (serves size) rows)) None) ≡ Some (class_number k)
@@ -45,10 +44,7 @@ none_of : (n : ℕ) → (0 < n → ⊥) → n ≡ 0
 none_of n none = elim (cases_lt 0 n) [ inl some ↦ absurd (none some) | inr zero_of ↦ omega (arith, zero_of) ]
 
 means_at : (state : NameState) (o : Addr) → bit (means (Some o) state) ≤ named_at o.0 state
-means_at name.Unpublished o = omega arith
-means_at name.Taken o = omega arith
-means_at (name.Published None) o = omega arith
-means_at (name.Published (Some a)) o = omega arith
+means_at state o = grind (arith)
 
 module _ {m : Setup} {b : Books} {calls : List CallLine} (f : Facts m b calls) (t : ℕ) (a : Account) (at : slice_get b.accounts t ≡ Some a) where
   -- objects of the hand's class move between the stock and the hand, and what a call takes from it
@@ -102,31 +98,17 @@ module _ {m : Setup} {b : Books} {calls : List CallLine} (f : Facts m b calls) (
               let c = counted (holding own.0 (Some o)) b.accounts held in
               elim (holder c.one.doing own.0 o c.some) [
                 | inl free ↦ elim (cases_eq c.at t) [
-                  | inl here ↦
-                      let d : c.one ≡ a = one_at b.accounts c.at t c.one a c.is at here in
-                      let l : loose n c.one.doing ≡ loose n a.doing = ap (λ (y : Account). loose n y.doing) d in
-                      (omega (arith, l, free, one, stored, mine), inl (omega (arith, l, free, one, mine)))
-                  | inr apart ↦
-                      let both = two (λ (y : Account). loose n y.doing + objects_at n y.hand) b.accounts c.at t c.one a apart c.is at in
-                      (omega (arith, free, one, stored, both), inl (omega (arith, free, one, both)))
+                  | inl here ↦ grind (arith, one_at b.accounts c.at t c.one a c.is)
+                  | inr apart ↦ grind (arith, two (λ (y : Account). loose n y.doing + objects_at n y.hand) b.accounts c.at t c.one a apart c.is)
                 ]
                 | inr frees ↦
                     let has : 0 < objects_at n c.one.hand = subst (λ k. 0 < objects_at k c.one.hand) frees.4 ((f.selves c.at c.one c.is).freeing frees.0 frees.1 frees.2) in
                     elim (cases_eq c.at t) [
-                      | inl here ↦
-                          let d : c.one ≡ a = one_at b.accounts c.at t c.one a c.is at here in
-                          let l : objects_at n c.one.hand ≡ objects_at n a.hand = ap (λ (y : Account). objects_at n y.hand) d in
-                          (omega (arith, l, has, one, stored, mine), inr (frees.0, frees.1, ap (λ (y : Account). y.doing) (sym d) ∙ frees.2, frees.4, omega (arith, l, has, one, mine)))
-                      | inr apart ↦
-                          let both = two (λ (y : Account). loose n y.doing + objects_at n y.hand) b.accounts c.at t c.one a apart c.is at in
-                          (omega (arith, has, one, stored, both), inl (omega (arith, has, one, both)))
+                      | inl here ↦ grind (arith, one_at b.accounts c.at t c.one a c.is)
+                      | inr apart ↦ grind (arith, two (λ (y : Account). loose n y.doing + objects_at n y.hand) b.accounts c.at t c.one a apart c.is)
                     ]
               ]
-          | inr unheld ↦
-              let u : bit (means (Some o) (state_of b.names own.0)) ≡ 1 = omega (arith, tied, unheld) in
-              let l = name_least m b calls f n own.0 in
-              let w = means_at (state_of b.names own.0) o in
-              (omega (arith, u, l, w, one, stored), inl (omega (arith, u, l, w, one, mine)))
+          | inr unheld ↦ grind (arith, name_least m b calls f n own.0, means_at (state_of b.names own.0) o)
         ]
 
     -- so a block still stands, but for that which the call frees
@@ -149,7 +131,4 @@ module _ {m : Setup} {b : Books} {calls : List CallLine} (f : Facts m b calls) (
         → ((label : Label) (o : Addr) → a.doing ≡ Frees label o → o.0 ≡ x.addr → 0 < objects_at x.addr came)
         → ((q : Run) → ((k : ℕ) → spans_like (small (class_number k) q) b.spans ≡ 0) → spans_of_run q a.apart ≡ 0 → spans_of_run q w.apart ≡ 0)
         → IsStanding m (books_with b g b.heap b.spans b.names t w) x
-    stands_on w x stands own frees apart = elim stands [
-      | inl l ↦ inl (large_still f t a w at g b.heap b.spans b.names x l l.live l.unmapped (apart l.run l.unmapped (l.unheld t a at)))
-      | inr o ↦ inr (record { class = o.class; object = object_stays x own frees o.class o.object; size = o.size })
-    ]
+    stands_on w x stands own frees apart = grind (arith, large_still f t a w, apart, object_stays x own frees)

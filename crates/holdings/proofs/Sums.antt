@@ -20,6 +20,7 @@ use Rattle.name_table.specs.Names.{state_of}
 use Rattle.holdings.specs.Runs.{bit, first_byte, run_of, same_run, same_kind, same_span, runs_like, runs_at, less, spans_like, spans_of_run, spans_at, without}
 use Rattle.holdings.specs.Books.{over_classes}
 use Rattle.std.proofs.lemmas.List.FromFn.{get_or-range_with_len, length-range_with_len}
+use Rattle.std.proofs.lemmas.Bool.Decides.{nat_tests}
 
 -- tests as numbers
 pub bit_is : (b : Bool) → 0 < bit b → b ≡ true
@@ -37,15 +38,11 @@ of_all P xs i x all is = subst P (get_or_from_slice_get xs i x x is) (all i x (s
 -- one account in place of another
 pub shift : {X : Type 0} (g : X → ℕ) (xs : List X) (t : ℕ) (l l' : X) → slice_get xs t ≡ Some l → sum_by g (slice_set xs t l') + g l ≡ sum_by g xs + g l'
 shift g xs t l l' is =
-    let s = sum_by-set g xs t l' l (slice_get_within xs t l is) in
-    let o : g (get_or xs t l) ≡ g l = ap g (get_or_from_slice_get xs t l l is) in
-    omega (arith, s, o)
+    grind (arith, sum_by-set g xs t l' l (slice_get_within xs t l is), slice_get_within xs t l is, g (get_or xs t l), g l, get_or_from_slice_get xs t l l is)
 
 pub least : {X : Type 0} (g : X → ℕ) (xs : List X) (t : ℕ) (l : X) → slice_get xs t ≡ Some l → g l ≤ sum_by g xs
 least g xs t l is =
-    let s = get_or-le-sum_by g xs t l (slice_get_within xs t l is) in
-    let o : g (get_or xs t l) ≡ g l = ap g (get_or_from_slice_get xs t l l is) in
-    omega (arith, s, o)
+    grind (arith, get_or-le-sum_by g xs t l (slice_get_within xs t l is), slice_get_within xs t l is, g (get_or xs t l), g l, get_or_from_slice_get xs t l l is)
 
 -- two accounts
 pub two : {X : Type 0} (g : X → ℕ) (xs : List X) (i t : ℕ) (x y : X) → i ≢ t → slice_get xs i ≡ Some x → slice_get xs t ≡ Some y → g x + g y ≤ sum_by g xs
@@ -85,11 +82,7 @@ counted g (x ∷ xs) some =
     ]
 
 pub none_counts : {X : Type 0} (g : X → ℕ) (xs : List X) → ((i : ℕ) (x : X) → slice_get xs i ≡ Some x → g x ≡ 0) → sum_by g xs ≡ 0
-none_counts g xs none =
-    elim (cases_lt 0 (sum_by g xs)) [
-      | inl some ↦ let c = counted g xs some in absurd (omega (arith, c.some, none c.at c.one c.is))
-      | inr not_some ↦ omega arith
-    ]
+none_counts g xs none = grind (arith, nat_tests, counted g xs)
 
 pub sum_of_both : {X : Type 0} (f g : X → ℕ) (xs : List X) → sum_by (λ (x : X). f x + g x) xs ≡ sum_by f xs + sum_by g xs
 sum_of_both f g [] = refl
@@ -112,16 +105,7 @@ sum_same f g a (suc n) same = grind (arith, sum_by-cons, (sum_same f g (a + 1) n
 
 sum_shift : (f g : ℕ → ℕ) (c a n : ℕ) → a ≤ c → c < a + n → ((k : ℕ) → k ≢ c → g k ≡ f k) → sum_by g (range_with_len a n) + f c ≡ sum_by f (range_with_len a n) + g c
 sum_shift f g c a zero from to same = absurd (omega arith)
-sum_shift f g c a (suc n) from to same =
-    let p = sum_by-cons f a (range_with_len (a + 1) n) in
-    let q = sum_by-cons g a (range_with_len (a + 1) n) in
-    elim (cases_eq a c) [
-      | inl here ↦
-          let e : f a ≡ f c = ap f here in
-          let h : g a ≡ g c = ap g here in
-          omega (arith, p, q, e, h, sum_same f g (a + 1) n (λ k past below. same k (λ is. omega arith)))
-      | inr later ↦ omega (arith, p, q, same a later, sum_shift f g c (a + 1) n (omega (arith, later)) (omega arith) same)
-    ]
+sum_shift f g c a (suc n) from to same = grind (arith, nat_tests, sum_shift f g c (a + 1) n, sum_by-cons, sum_same)
 
 pub class_shift : (rows : List ClassRow) (f g : ℕ → ℕ) (c : ℕ) → c < length rows → ((k : ℕ) → k ≢ c → g k ≡ f k) → over_classes rows g + f c ≡ over_classes rows f + g c
 class_shift rows f g c below same = sum_shift f g c 0 (length rows) (omega arith) (omega arith) same
@@ -163,10 +147,7 @@ pub same_run_refl : (x : Run) → same_run x x ≡ true
 same_run_refl x = let a = eq-eqb x.first.0 x.first.0 refl in let b = eq-eqb x.pages x.pages refl in (rw (a, b) refl)
 
 pub same_kind_is : (j k : SpanKind) → same_kind j k ≡ true → j ≡ k
-same_kind_is Large Large is = refl
-same_kind_is Large (Small k) is = absurd (cc)
-same_kind_is (Small j) Large is = absurd (cc)
-same_kind_is (Small j) (Small k) is = ap (λ (n : ℕ). Small (record { 0 = n })) (eqb-true j.0 k.0 is)
+same_kind_is j k is = grind (arith)
 
 pub same_kind_refl : (k : SpanKind) → same_kind k k ≡ true
 same_kind_refl Large = refl
@@ -254,18 +235,8 @@ All-weaken P Q xs gives all i d within = gives (get_or xs i d) (all i d within)
 
 pub none_meets : (b : Extent) (bs : List Extent) → All (λ x. meets b x ≡ false) bs → list_any (meets b) bs ≡ false
 none_meets b [] all = refl
-none_meets b (x ∷ xs) all =
-    let h : meets b x ≡ false = All-head (λ y. meets b y ≡ false) x xs all in
-    rw h (none_meets b xs (All-tail (λ y. meets b y ≡ false) x xs all))
+none_meets b (x ∷ xs) all = grind (arith, none_meets b xs (All-tail (λ y. meets b y ≡ false) x xs all), All-head, All-tail)
 
 pub All-kept : {X : Type 0} (P Q : X → Type 0) (p : X → Bool) (xs : List X) → ((x : X) → P x → p x ≡ true → Q x) → All P xs → All Q (filter p xs)
 All-kept P Q p [] gives all = λ i d within. absurd (omega arith)
-All-kept {X} P Q p (x ∷ xs) gives all =
-    let rest : All Q (filter p xs) = All-kept P Q p xs gives (All-tail P x xs all) in
-    let step : (b : Bool) → p x ≡ b → All Q (cond b (x ∷ filter p xs) (filter p xs)) =
-    λ b. elim b as (λ c. p x ≡ c → All Q (cond c (x ∷ filter p xs) (filter p xs))) [
-      | true ↦ λ e. All-cons Q x (filter p xs) (gives x (All-head P x xs all) e) rest
-      | false ↦ λ e. rest
-    ]
-    in
-    step (p x) refl
+All-kept {X} P Q p (x ∷ xs) gives all = grind (arith, All-kept P Q p xs gives (All-tail P x xs all), All-tail, All-cons, All-head)
