@@ -1,7 +1,7 @@
 -- The filler's choice by its measures is that of the heap.
-use Rattle.std.proofs.Common.{◌≡◌, ℕ, zero, suc, ◌+◌, ◌-◌, ◌<◌, ◌≤◌, ◌⊎◌, Bool, true, false, not, cond, List, [], ◌∷◌, length}
+use Rattle.std.proofs.Common.{◌≡◌, ℕ, zero, suc, ◌+◌, ◌-◌, ◌<◌, ◌≤◌, ◌⊎◌, Bool, true, false, List, [], ◌∷◌, length}
 use Rattle.std.proofs.Common.{get_or, filter, All, Contains, Option, Some, IfSome, refl, sym, ap, subst, ◌∙◌, inl, inr, arith}
-use Rattle.page_heap.proofs.Common.{list_all, range_with_len, cases_Bool, cases_eq, leb-true, le-leb, length-map, get_or-map, All-head, All-tail}
+use Rattle.page_heap.proofs.Common.{range_with_len, cases_Bool, cases_eq, leb-true, le-leb, length-map, get_or-map, All-head, All-tail}
 use Rattle.page_heap.proofs.Common.{length-range_with_len, get_or-range_with_len, none-some, same_Some, Run, first_of_two, first_least, first_least-all, Heap}
 use Rattle.page_heap.proofs.Common.{Hugepage, hugepage, numbers, longest_range, is_filler, FillerRow, filler_row, filler_rows, IsHugepageOf, IsRowWithRoom}
 use Rattle.page_heap.proofs.Common.{rows_fit, filter_holds, Huge, Measures, measures_at, prefers, IsPreferred, measures_of, measured, measures, nat_tests}
@@ -89,15 +89,6 @@ module _ (heap : Heap) (n : ℕ) where
       no_element : {X : Type 0} (xs : List X) → All (λ x. ⊥) xs → xs ≡ []
       no_element [] h = refl
       no_element (x ∷ xs) h = absurd (h 0 x (omega arith))
-
-pub all_fail : {X : Type 0} (p : X → Bool) (xs : List X) → filter p xs ≡ [] → list_all (λ x. not (p x)) xs ≡ true
-all_fail p [] e = refl
-all_fail p (x ∷ xs) e = elim (cases_Bool (p x)) [
-  | inl t ↦ absurd (some_left (filter p xs) (sym (ap (λ b. cond b (x ∷ filter p xs) (filter p xs)) t) ∙ e))
-  | inr f ↦ rw f (all_fail p xs (sym (ap (λ b. cond b (x ∷ filter p xs) (filter p xs)) f) ∙ e))
-] where
-  some_left : {X : Type 0} {x : X} (xs : List X) → x ∷ xs ≡ [] → ⊥
-  some_left xs e = cc
 
 -- What the filler's answer says of the heap.
 pub record IsFound (heap : Heap) (n h : ℕ) : Type 0 where

@@ -1,6 +1,5 @@
 -- What a hugepage shows of itself, and what the choosers are told by it.
-use Rattle.std.proofs.Common.{◌≡◌, ℕ, ◌+◌, ◌-◌, ◌*◌, ◌/◌, ◌<◌, ◌≤◌, ◌==◌, true, ◌&&◌, cond, length, count_by, Option, Some, None, sym, ap, ◌∙◌, inl, inr}
-use Rattle.std.proofs.Common.{arith}
+use Rattle.std.proofs.Common.{◌≡◌, ℕ, ◌+◌, ◌-◌, ◌*◌, ◌/◌, ◌<◌, ◌≤◌, ◌==◌, true, ◌&&◌, cond, length, count_by, Option, Some, None, sym, ap, ◌∙◌, inl, inr, arith}
 use Rattle.page_heap.proofs.Common.{list_all, cases_Bool, and_right, Heap, Hugepage, hugepage, backs, is_used, is_free, is_filler, used_count}
 use Rattle.page_heap.proofs.Common.{longest_range, allocation_count, backed_count, pages_of, tier, row_of, IsHugepageOf, IsSound, both, own_backs, Table}
 use Rattle.page_heap.proofs.Common.{Means, Cache, with_huge, RowView, Measures, spare_of, measured, IsTold, measures_by, with_shown, with_freed}

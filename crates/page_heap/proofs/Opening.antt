@@ -2,12 +2,11 @@
 use Rattle.std.proofs.Common.{◌≡◌, ℕ, ◌+◌, ◌-◌, ◌*◌, ◌/◌, ◌^◌, ◌<◌, ◌≤◌, true, false, not, cond, Bool, List, length, replicate, map, Contains, Some, None}
 use Rattle.std.proofs.Common.{refl, sym, ap, subst, ◌∙◌, inl, inr, arith}
 use Rattle.page_heap.proofs.Common.{cases_Bool, false≢true, false_from_ne_true, same_lists, length-replicate, get_or-replicate, length-map-range_with_len}
-use Rattle.page_heap.proofs.Common.{get_or-map-range_with_len, Run, Contains-new, Contains-old, map-with_item, free_from, HeapConfig, Heap, Hugepage}
-use Rattle.page_heap.proofs.Common.{hugepage, is_used, region_row, reaches, run_at, is_free, is_region, spans, RegionRow, region_row_of}
-use Rattle.page_heap.proofs.Common.{run_choice, all_backed, region_page, with_new_region, in_new_region, IsHugepageOf, AreRunsSound, IsSound, IsGiven}
-use Rattle.page_heap.proofs.Common.{AreFree, run_choice_free, reaches_parts, spans_parts, spans_from, at, page_of, here, Means, Table, IsSpan, reached_by}
-use Rattle.page_heap.proofs.Common.{Cache, Regions, region_with, with_changed, joined, start_in, AreFreeIn, Inside, measured, measures, cache_of}
-use Rattle.page_heap.proofs.Common.{regions_of, IsRouted, nat_tests}
+use Rattle.page_heap.proofs.Common.{get_or-map-range_with_len, Run, Contains-new, Contains-old, map-with_item, free_from, HeapConfig, Heap, Hugepage, hugepage}
+use Rattle.page_heap.proofs.Common.{is_used, region_row, reaches, run_at, is_free, is_region, spans, RegionRow, region_row_of, run_choice, all_backed}
+use Rattle.page_heap.proofs.Common.{region_page, with_new_region, in_new_region, IsHugepageOf, AreRunsSound, IsSound, IsGiven, AreFree, run_choice_free}
+use Rattle.page_heap.proofs.Common.{reaches_parts, spans_parts, spans_from, at, page_of, here, Means, Table, IsSpan, reached_by, Cache, Regions, region_with}
+use Rattle.page_heap.proofs.Common.{with_changed, joined, start_in, AreFreeIn, Inside, measured, measures, cache_of, regions_of, IsRouted, nat_tests}
 use Rattle.std.proofs.lemmas.List.Folds.{prefix_len-replicate}
 use Rattle.tc_units.specs.Sorted.{with_item}
 use Rattle.heap_rules.specs.Heap.{used_from}

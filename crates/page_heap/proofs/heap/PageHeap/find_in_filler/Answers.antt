@@ -2,7 +2,8 @@ use Rattle.std.proofs.Common.{◌≡◌, ℕ, ◌+◌, ◌*◌, ◌<◌, ◌≤�
 use Rattle.page_heap.proofs.Common.{length-map-range_with_len, best, hugepage, is_used, used_row, place_in_row, filler_rows, shares, is_Filler}
 use Rattle.heap_rules.specs.FillerRows.{has_room}
 use Rattle.range_bits.proofs.RangeFacts.{best_there, best_is_fit}
-use Rattle.page_heap.proofs.Choices.{IsFound, found, none_there, all_fail}
+use Rattle.heap_rules.proofs.Given.{none_pass}
+use Rattle.page_heap.proofs.Choices.{IsFound, found, none_there}
 use Rattle.page_heap.proofs.Results.{is_heap, as_many}
 use Rattle.page_heap.proofs.heap.PageHeap.find_in_filler.Goals as goal
 use Rattle.page_heap.proofs.heap.PageHeap.find_in_filler.Goals.{In_err-huge, In_ok-huge, After-best}
@@ -15,7 +16,7 @@ returns-in_err-huge-clause-place c = grind (arith, none, c.from_residual.ensures
 
 pub returns-in_err-huge-clause-none : goal.returns-in_err-huge-clause-none
 returns-in_err-huge-clause-none c =
-    rw c.from_residual.ensures (all_fail (has_room c.args.n) (filler_rows c.args.self.now) (none (goal.at.returns-in_err-huge-clause-none c).In_err-huge))
+    rw c.from_residual.ensures (none_pass (has_room c.args.n) (filler_rows c.args.self.now) (none (goal.at.returns-in_err-huge-clause-none c).In_err-huge))
 
 is : (c : In_ok-huge) → IsFound c.args.self.now c.args.n c.in_ok-huge.huge.0
 is c =
