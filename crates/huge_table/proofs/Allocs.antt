@@ -1,6 +1,5 @@
 -- How many runs have a page of a hugepage: those that begin in it, and one that reaches into it.
-use Rattle.std.proofs.Common.{◌≡◌, ℕ, zero, suc, ◌+◌, ◌*◌, ◌≤◌, ◌==◌, Bool, ◌&&◌, not, cond, List, map, get_or, count_by, refl}
-use Rattle.std.proofs.Common.{sym, ap, ◌∙◌, arith}
+use Rattle.std.proofs.Common.{◌≡◌, ℕ, zero, suc, ◌+◌, ◌*◌, ◌≤◌, ◌==◌, Bool, ◌&&◌, not, cond, List, map, get_or, count_by, refl, sym, ap, ◌∙◌, arith}
 use Rattle.huge_table.proofs.Common.{list_any, range_with_len, false_from_ne_true, sum_by-map-range_with_len_more, Run, any_is_count}
 use Rattle.huge_table.proofs.Common.{count_le, count_none, Heap, holds, reaches, is_used, allocation_count, pages_of, IsInside, IsSound, holds_from}
 use Rattle.huge_table.proofs.Common.{used_count, is_between, begins_on, nat_tests}
@@ -43,10 +42,7 @@ module _ (heap : Heap) (sound : IsSound heap) (h : ℕ) where
   each_one r inside = grind (arith, nat_tests, inside.some)
 
   few_begin : (page : ℕ) → count_by (begins_on page) heap.runs ≤ 1
-  few_begin page =
-      let le = count_le (begins_on page) (holds page) heap.runs
-      (λ k d l e. grind (arith, nat_tests, holds_from)) in
-      omega arith
+  few_begin page = grind (arith, count_le (begins_on page) (holds page) heap.runs, holds_from)
 
   -- one such run is there where the page is used and no run begins on it
   into_is : count_by into heap.runs ≡ one (is_used heap.runs (256 * h) && not (list_any (begins_on (256 * h)) heap.runs))

@@ -9,7 +9,7 @@ pub use Rattle.heap_rules.specs.Heap.{Heap, Hugepage, allocation_count, backed_c
 pub use Rattle.heap_rules.specs.Heap.{is_kind_free, is_kind_region, is_region, is_used, opened, pages_of, reaches, row_of, run_at, spans, untouched}
 pub use Rattle.heap_rules.specs.Heap.{used_row, whole, with_run, without_run}
 pub use Rattle.heap_rules.specs.New.{all_backed, filler_page, more_backed, placed, region_page, run_or_tail, run_page, with_new_region, with_region}
-pub use Rattle.heap_rules.specs.Sound.{AreRunsSound, HasOneRun, IsHugepageOf, IsInside, IsPageOf, IsSound}
+pub use Rattle.heap_rules.specs.Sound.{AreRunsSound, HasOneRun, IsInside, IsPageOf, IsSound}
 pub use Rattle.huge_table.specs.Means.{IsEnding, Means, begins_on, ends_on, is_run, is_shared, shares, taken, unbacked_span, used_alone}
 pub use Rattle.huge_table.specs.Table.{AreKept, HasBits, IsNoted, IsSpan, Table, bit, by_bits, emptied_where, free_page, hugepage_of, is_between, is_even}
 pub use Rattle.huge_table.specs.Table.{kind_by, noted_row, of_filler, of_kind, over_span, reached_by, region_freed, table_of, with_backing}

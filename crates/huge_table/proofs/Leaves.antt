@@ -1,12 +1,11 @@
 -- A run leaves, and its hugepages become free where they serve nothing more.
 use Rattle.std.proofs.Common.{◌≡◌, ℕ, ◌+◌, ◌*◌, ◌/◌, ◌<◌, ◌≤◌, ◌==◌, Bool, true, false, not, cond, eqb, List, length, map, Contains, refl, sym, ap}
 use Rattle.std.proofs.Common.{subst, ◌∙◌, inl, inr, arith}
-use Rattle.huge_table.proofs.Common.{cases_lt, cases_eq, eq-eqb, ne_eqb, false≢true, length-map-range_with_len, get_or-map-range_with_len, Run, RowKind}
-use Rattle.huge_table.proofs.Common.{count_none, used_count, Heap, Hugepage, hugepage, each, spans, reaches, holds, is_used, is_filler, is_region}
-use Rattle.huge_table.proofs.Common.{is_kind_region, used_row, allocation_count, run_at, without_run, pages_of, left_by, left, given_back, IsPageOf}
-use Rattle.huge_table.proofs.Common.{IsSound, length-each, each_is, reaches_parts, serves_at, is_Region, none_reach, some_reach, own_run, given_is_left}
-use Rattle.huge_table.proofs.Common.{all_used, Table, IsSpan, IsNoted, HasBits, bit, is_between, noted_row, emptied_where, over_span, free_page, Means}
-use Rattle.huge_table.proofs.Common.{is_shared, is_run, shares, nat_tests}
+use Rattle.huge_table.proofs.Common.{cases_lt, cases_eq, ne_eqb, false≢true, length-map-range_with_len, get_or-map-range_with_len, Run, RowKind, count_none}
+use Rattle.huge_table.proofs.Common.{used_count, Heap, Hugepage, hugepage, each, spans, reaches, holds, is_used, is_filler, is_region, is_kind_region, used_row}
+use Rattle.huge_table.proofs.Common.{allocation_count, run_at, without_run, pages_of, left_by, left, given_back, IsPageOf, IsSound, length-each, each_is}
+use Rattle.huge_table.proofs.Common.{reaches_parts, serves_at, is_Region, none_reach, some_reach, own_run, given_is_left, all_used, Table, IsSpan, IsNoted}
+use Rattle.huge_table.proofs.Common.{HasBits, bit, is_between, noted_row, emptied_where, over_span, free_page, Means, is_shared, is_run, shares, nat_tests}
 use Rattle.tc_units.specs.declared.rows.RowKind.TheVariants as kind
 use Rattle.heap_rules.proofs.Places.{at}
 use Rattle.heap_rules.proofs.Fillers.{is_Filler}
@@ -30,10 +29,7 @@ module _ (heap : Heap) (run : Run) (sound : IsSound heap) (live : Contains heap.
   -- no page of a hugepage is used exactly where no run reaches it
   unused_exactly : (h : ℕ) → eqb (used_count (used_row rest h)) 0 ≡ (allocation_count rest h == 0)
   unused_exactly h = elim (cases_eq (allocation_count rest h) 0) [
-    | inl none ↦
-        (let unused = none_reach heap run sound live h none in
-        eq-eqb (used_count (used_row rest h)) 0 (none_counted (is_used rest) h unused)
-        ∙ sym (eq-eqb (allocation_count rest h) 0 none))
+    | inl none ↦ grind (arith, nat_tests, none_reach heap run sound live h none, none_counted (is_used rest) h)
     | inr more ↦
         ne_eqb (used_count (used_row rest h)) 0 (λ e. (let has = some_reach heap run sound live h (positive _ more) in false≢true (sym (none_used rest h e has.page has.own) ∙ has.used)))
         ∙ sym (ne_eqb (allocation_count rest h) 0 more)
@@ -48,9 +44,6 @@ left_filler k runs h x e = ap (λ j. left_by j runs h x) e
 
 left_region : (k : RowKind) (runs : List Run) (h : ℕ) (x : Hugepage) → k ≡ kind.Region → left_by k runs h x ≡ x
 left_region k runs h x e = ap (λ j. left_by j runs h x) e
-
-emptied_shared : (b : Bool) (x : Hugepage) → is_shared x ≡ true → is_shared (emptied_where b x) ≡ true
-emptied_shared b x e = grind (arith, nat_tests)
 
 pub is_Run : (k : RowKind) → not (shares k) ≡ true → k ≡ kind.Run
 is_Run k e = grind (arith, nat_tests)

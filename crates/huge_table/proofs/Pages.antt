@@ -73,9 +73,7 @@ empty_is false g s b v d bs h e all = refl
 -- what holds of each hugepage of a span holds of its bits
 pub spanned : (t : Inside) (now : Table) (first many : ℕ) (test : Hugepage → Bool) → table_of t ≡ now → IsSpan now first many test → (h : ℕ) → 0 < h →
     h ≤ t.huge → spans many h first ≡ true → test (hugepage_of t h) ≡ true
-spanned t now first many test view span h some inside e =
-    let parts = spans_parts many h first e in
-    ap test (sym (at-table t h some inside) ∙ ap (λ (x : Table). at x.pages h) view) ∙ span.all h parts.0 parts.1
+spanned t now first many test view span h some inside e = grind (arith, spans_parts many h first e, at-table t h some inside, span.all h)
 
 -- a row of a hugepage's pages, place by place
 pub row_is : (f : ℕ → Bool) (h : ℕ) (ys : List Bool) → length ys ≡ 256 → ((page : ℕ) → IsPageOf h page → f page ≡ get_or ys (page % 256) false) → map f (pages_of h) ≡ ys

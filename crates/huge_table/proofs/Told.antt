@@ -1,9 +1,10 @@
 -- The runs that a table notes are those of its heap.
 use Rattle.std.proofs.Common.{◌≡◌, ℕ, zero, suc, ◌+◌, ◌-◌, ◌*◌, ◌<◌, ◌≤◌, ◌==◌, Bool, true, false, ◌||◌, not, cond, List, [], ◌∷◌, length, get_or, drop, filter}
 use Rattle.std.proofs.Common.{map, All, Contains, refl, sym, subst, ap, ◌∙◌, inl, inr, arith}
-use Rattle.huge_table.proofs.Common.{list_any, range_with_len, prefix_len, cases_lt, cases_eq, eqb-true, eq-eqb, ne_eqb, lt-ltb, le-ltb, false≢true}
+use Rattle.huge_table.proofs.Common.{list_any, range_with_len, prefix_len, cases_lt, cases_eq, eqb-true, eq-eqb, ne_eqb, lt-ltb, false≢true}
 use Rattle.huge_table.proofs.Common.{false_from_ne_true, get_or-drop, length-drop, prefix_len_passes, Run, Heap, run_at, holds, with_run, without_run}
 use Rattle.huge_table.proofs.Common.{IsInside, IsSound, holds_from, same_member, Table, bit, Means, begins_on, ends_on, nat_tests}
+use Rattle.std.proofs.lemmas.Bool.{or_parts}
 use Rattle.std.proofs.lemmas.List.Elements.{All-head, All-tail, All-contains, Contains-get_or}
 use Rattle.std.proofs.lemmas.List.Folds.{Any-from_list_any, list_any_at}
 use Rattle.heap_rules.proofs.Longest.{prefix_long}
@@ -23,31 +24,20 @@ with_one : (a : ℕ) (run : Run) (runs : List Run) → a ≤ run.first.0 → Are
 with_one a run [] h o none = (h, tt)
 with_one a run (r ∷ runs) h o none = elim (cases_lt run.first.0 r.first.0) [
   | inl before ↦ subst (λ b. AreInOrderFrom a (cond b (run ∷ r ∷ runs) (r ∷ with_run run runs))) (sym (lt-ltb run.first.0 r.first.0 before)) (h, (before_next before, o.1))
-  | inr behind ↦
-      subst (λ b. AreInOrderFrom a (cond b (run ∷ r ∷ runs) (r ∷ with_run run runs))) (sym (le-ltb run.first.0 r.first.0 behind))
-      (o.0, with_one (r.first.0 + 1) run runs (past behind) o.1 (rest none))
+  | inr behind ↦ grind (arith, nat_tests, with_one (r.first.0 + 1) run runs (past behind) o.1 (rest none))
 ] where
   before_next : run.first.0 < r.first.0 → run.first.0 + 1 ≤ r.first.0
   before_next l = omega arith
 
-  parts : (x y : Bool) → (x || y) ≡ false → (x ≡ false) × (y ≡ false)
-  parts true y e = absurd (false≢true (sym e))
-  parts false y e = (refl, e)
-
   rest : list_any (begins_on run.first.0) (r ∷ runs) ≡ false → list_any (begins_on run.first.0) runs ≡ false
-  rest e = (parts (r.first.0 == run.first.0) (list_any (begins_on run.first.0) runs) e).1
+  rest e = (or_parts (r.first.0 == run.first.0) (list_any (begins_on run.first.0) runs) e).1
 
   past : r.first.0 ≤ run.first.0 → r.first.0 + 1 ≤ run.first.0
-  past l = elim (cases_eq r.first.0 run.first.0) [
-    | inl same ↦ absurd (false≢true (sym (parts (r.first.0 == run.first.0) (list_any (begins_on run.first.0) runs) none).0 ∙ eq-eqb r.first.0 run.first.0 same))
-    | inr other ↦ omega arith
-  ]
+  past l = grind (arith)
 
 without_one : (a : ℕ) (run : Run) (runs : List Run) → AreInOrderFrom a runs → AreInOrderFrom a (without_run run runs)
 without_one a run [] o = tt
-without_one a run (r ∷ runs) o =
-    let rest = without_one (r.first.0 + 1) run runs o.1 in
-    grind (arith, nat_tests, later)
+without_one a run (r ∷ runs) o = grind (arith, without_one (r.first.0 + 1) run runs o.1, later)
 
 -- The pages where runs begin, and the runs from there.
 told : (ends : List Bool) (test : ℕ → Bool) (runs : List Run) (a n : ℕ) → AreInOrderFrom a runs → All (λ r. r.first.0 < a + n) runs →
@@ -65,10 +55,7 @@ told ends test (r ∷ runs) a (suc n) o low is same = elim (cases_eq r.first.0 a
       ∙ ap (λ xs. r ∷ xs) (told ends test runs (a + 1) n (later (a + 1) (r.first.0 + 1) runs (omega arith) o.1)
       (λ k d l. next _ (All-tail (λ x. x.first.0 < a + suc n) r runs low k d l)) (All-tail (λ x. run_from ends x.first.0 ≡ x) r runs is)
       (λ page h. same page (omega arith) ∙ ap (λ b. b || list_any (begins_on page) runs) (ne_eqb r.first.0 page (λ e. absurd (omega arith))))))
-  | inr other ↦
-      (let above : a + 1 ≤ r.first.0 = omega (arith, o.0) in
-      rw (same a (omega arith) ∙ none_before (a + 1) a (r ∷ runs) (omega arith) (above, o.1))
-      (told ends test (r ∷ runs) (a + 1) n (above, o.1) (λ k d l. next _ (low k d l)) is (λ page h. same page (omega arith))))
+  | inr other ↦ grind (arith, told ends test (r ∷ runs) (a + 1) n, same a, none_before (a + 1) a (r ∷ runs), low)
 ] where
   next : (f : ℕ) → f < a + suc n → f < a + 1 + n
   next f h = omega arith

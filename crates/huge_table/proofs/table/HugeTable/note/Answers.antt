@@ -1,6 +1,5 @@
-use Rattle.std.proofs.Common.{◌≡◌, ℕ, ◌+◌, ◌-◌, Bool, false, cond, eqb, ap, ◌∙◌, arith}
+use Rattle.std.proofs.Common.{◌≡◌, ℕ, ◌+◌, ◌-◌, Bool, arith}
 use Rattle.range_bits.proofs.Placing.{get_or-with_places}
-use Rattle.huge_table.proofs.Common.{Table, bit}
 use Rattle.huge_table.proofs.Sizes.{arena}
 use Rattle.huge_table.proofs.Pages.{one_place, last_place}
 use Rattle.huge_table.proofs.table.HugeTable.note.Goals as goal
@@ -17,9 +16,5 @@ returns-clause-noted c =
     record {
       used = grind (arith, get_or-with_places, c.put.ensures, c.self.view_is);
       begins = grind (arith, get_or-with_places, one_place, c.set.ensures, c.self.invariant.begins, c.self.view_is);
-      ends = λ page.
-          ap (λ row. bit row page) c.set-2.ensures
-          ∙ get_or-with_places t.ends (first + n - 1) 1 v page false (omega (arith, c.self.invariant.ends))
-          ∙ ap (λ b. cond b v (bit t.ends page)) (last_place (first + n) page (omega arith))
-          ∙ ap (λ (x : Table). cond (eqb (first + n) (page + 1)) v (bit x.ends page)) c.self.view_is;
+      ends = grind (arith, get_or-with_places t.ends (first + n - 1) 1 v, last_place (first + n));
     }
