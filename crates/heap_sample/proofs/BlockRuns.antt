@@ -1,19 +1,17 @@
 -- Calls that are a run on disjoint blocks are first uses of their labels, where each label is allocated once and no request
 -- is too large.
-use Rattle.std.proofs.Common.{◌≡◌, ℕ, ◌≤◌, false, None, List, [], ◌∷◌, ◌++◌, length, get_or, cond}
-use Rattle.std.proofs.Common.{refl, subst, sym, ap, ◌∙◌, inl, inr, arith, append_assoc}
+use Rattle.std.proofs.Common.{◌≡◌, ℕ, ◌≤◌, false, None, List, [], ◌∷◌, ◌++◌, length, get_or, cond, refl, subst, sym, ap, ◌∙◌, arith, append_assoc}
 use Rattle.std.specs.List.{count_by, All}
 use Rattle.std.proofs.lemmas.Bool.{cases_Bool, eq-eqb, eqb-true}
 use Rattle.std.proofs.lemmas.List.{get_or_at, length-append}
 use Rattle.std.proofs.lemmas.List.Sums.{sum_by-append}
-use Rattle.std.proofs.lemmas.Option.{none-some}
+use Rattle.std.proofs.lemmas.Bool.Decides.{nat_tests}
 use Rattle.tc_units.specs.declared.units.Label.{Label}
 use Rattle.tc_units.proofs.Counts.{count-cons, one-true}
 use Rattle.tc_model.specs.Blocks.{allocates, frees, answer_to, freed_in, IsAllowed, IsBlockRun}
 use Rattle.tc_model.specs.declared.calls.Call.{Call}
 use Rattle.tc_model.specs.declared.calls.Call.TheVariants.{Malloc, Free}
 use Rattle.tc_model.specs.declared.answers.Answer.{Answer}
-use Rattle.tc_model.specs.declared.answers.Answer.TheVariants.{Freed, FreedNull}
 use Rattle.tc_model.specs.declared.answers.CallLine.{CallLine}
 use Rattle.heap_sample.specs.Samples.{IsFirstUse, most_size}
 use Rattle.heap_sample.specs.Profiles.{AreFirstUses}
@@ -30,18 +28,12 @@ AsksFew call = (label : Label) (size : ℕ) → call ≡ Malloc label size → s
 no_answer : (label : ℕ) (calls : List CallLine) → got_among label calls ≡ 0 → answer_to label calls ≡ None
 no_answer label [] none = refl
 no_answer label (c ∷ calls) none =
-    let all = count-cons (λ (d : CallLine). allocates label d.call) c calls in
-    elim (cases_Bool (allocates label c.call)) [
-      | inl is ↦ (let one = one-true (allocates label c.call) is in absurd (omega (arith, none, all, one)))
-      | inr other ↦ rw other (no_answer label calls (omega (arith, none, all)))
-    ]
+    grind (arith, nat_tests, no_answer label calls, count-cons (λ (d : CallLine). allocates label d.call) c calls, one-true (allocates label c.call))
 
 module _ (huge : ℕ) (length_of : ℕ → ℕ) where
   -- and none frees it
   answered : (earlier : List CallLine) (l : Label) (answer : Answer) → IsAllowed huge length_of earlier (Free l) answer → answer_to l.0 earlier ≡ None → ⊥
-  answered earlier l (Freed addr) allowed none = none-some _ (sym none ∙ allowed.answered)
-  answered earlier l FreedNull allowed none = none-some _ (sym none ∙ allowed.answered)
-  answered earlier l answer allowed none = absurd allowed
+  answered earlier l answer allowed none = grind (arith)
 
   frees_other : (label : ℕ) (earlier : List CallLine) (call : Call) (answer : Answer)
       → IsAllowed huge length_of earlier call answer → answer_to label earlier ≡ None → frees label call ≡ false

@@ -1,6 +1,5 @@
 -- What the live samples stand for is within what was asked for, and that within what calls may ask for.
-use Rattle.std.proofs.Common.{refl, ◌≡◌, ℕ, ◌+◌, ◌-◌, ◌*◌, ◌/◌, ◌<◌, ◌≤◌, Bool, not, List, [], ◌∷◌, ◌++◌, length, slice_index, slice_set, sym}
-use Rattle.std.proofs.Common.{ap, ◌∙◌, arith}
+use Rattle.std.proofs.Common.{refl, ◌≡◌, ℕ, ◌+◌, ◌-◌, ◌*◌, ◌/◌, ◌<◌, ◌≤◌, Bool, not, List, [], ◌∷◌, ◌++◌, length, slice_index, slice_set, arith}
 use Rattle.std.specs.List.{filter, sum_by, sum}
 use Rattle.std.proofs.lemmas.Bool.{cases_Bool}
 use Rattle.std.proofs.lemmas.List.Sums.{sum_by-cons, sum_by-append, sum_by-set, sum_by-le-sum_by}
@@ -26,11 +25,7 @@ within : (step n : ℕ) → covered step n ≤ n
 within step n = omega (arith, div-add-mod' n step)
 
 risen : (step before add : ℕ) → 0 < step → covered step before + weight_of step before (before + add) ≡ covered step (before + add)
-risen step before add some =
-    let up : before / step ≤ (before + add) / step = le-div (before / step) (before + add) step some (omega (arith, within step before)) in
-    let d = (before + add) / step - before / step in
-    let whole : (before + add) / step ≡ before / step + d = omega (arith, up) in
-    sym (ap (λ (n : ℕ). n * step) whole ∙ add_mul (before / step) d step)
+risen step before add some = grind (arith, le-div (before / step) (before + add) step some, within step before, add_mul (before / step))
 
 -- with a sum that rises in a list of them
 module _ (step : ℕ) (asked : List ℕ) (t add : ℕ) (some : 0 < step) (inside : t < length asked) where
@@ -76,19 +71,7 @@ module _ (step : ℕ) (asked : List ℕ) (t : ℕ) (call : Call) (answer : Answe
   left = filter (λ s. not (frees s.0 call)) old
 
   pub few : length new ≤ length old + 1
-  few =
-      let one : ℕ × Sample → ℕ = λ s. 1 in
-      omega (arith, same one, sum_by-append one came left, filtered one (λ s. not (frees s.0 call)) old, counts new, counts old, counts came, (gives step (slice_index asked t) call answer).0)
+  few = grind (arith, sum_by-append, filtered, counts new, counts old, counts came, gives step (slice_index asked t) call answer)
 
   pub light : weight_in old ≤ sum_by (covered step) asked → weight_in new ≤ sum_by (covered step) (after step asked t (bytes_asked call answer) some inside)
-  light was =
-      let weight : ℕ × Sample → ℕ = λ s. s.1.weight in
-      omega (
-        arith,
-        was,
-        same weight,
-        sum_by-append weight came left,
-        filtered weight (λ s. not (frees s.0 call)) old,
-        (gives step (slice_index asked t) call answer).1,
-        covers step asked t (bytes_asked call answer) some inside,
-      )
+  light was = grind (arith, sum_by-append, filtered, gives step (slice_index asked t) call answer, covers step asked t (bytes_asked call answer) some inside)

@@ -1,6 +1,7 @@
 -- What a call makes of the live samples: an allocation that got a block, a free, and a call that is neither.
 use Rattle.std.proofs.Common.{refl, ◌≡◌, ℕ, Bool, true, false, not, List, [], ◌∷◌, ◌++◌, ap, ◌∙◌}
 use Rattle.std.specs.List.{filter}
+use Rattle.std.proofs.Common.{arith}
 use Rattle.tc_units.specs.declared.units.Label.{Label}
 use Rattle.tc_units.specs.declared.units.Addr.{Addr}
 use Rattle.tc_model.specs.Blocks.{frees}
@@ -28,9 +29,7 @@ pub record IsQuiet (call : Call) (answer : Answer) : Type 0 where
 
 pub quiet : (call : Call) (answer : Answer) → ((l : Label) (n : ℕ) (a : Addr) (len : ℕ) → call ≡ Malloc l n → answer ≡ Block a len → ⊥)
     → ((l : Label) → call ≡ Free l → ⊥) → IsQuiet call answer
-quiet (Malloc l n) (Block a len) block free = absurd (block l n a len refl refl)
-quiet (Free l) answer block free = absurd (free l refl)
-quiet call answer block free = record { asks = refl; gives = λ step before. refl; frees_none = λ k. refl }
+quiet call answer block free = grind (arith)
 
 -- such a call leaves the samples as they were
 pub unchanged : (step before : ℕ) (call : Call) (answer : Answer) (live : List (ℕ × Sample)) → IsQuiet call answer

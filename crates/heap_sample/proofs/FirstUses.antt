@@ -1,5 +1,5 @@
 -- Calls whose labels are new one after another.
-use Rattle.std.proofs.Common.{◌≡◌, ℕ, List, [], ◌∷◌, ◌++◌, length, drop, take, get_or, subst, sym, ap, ◌∙◌, arith}
+use Rattle.std.proofs.Common.{◌≡◌, ℕ, List, [], ◌∷◌, ◌++◌, length, drop, take, sym, ap, ◌∙◌, arith}
 use Rattle.std.proofs.lemmas.List.{append-nil, append_assoc, length-append, take-append-drop}
 use Rattle.tc_model.specs.declared.answers.CallLine.{CallLine}
 use Rattle.tc_model.specs.declared.calls.Call.{Call}
@@ -14,13 +14,9 @@ FirstUsesFrom before (c ∷ calls) = IsFirstUse before c.call × FirstUsesFrom (
 uses_behind : (before calls : List CallLine) → FirstUsesFrom before calls → (earlier : List CallLine) (c : CallLine) (later : List CallLine)
     → earlier ++ c ∷ later ≡ calls → IsFirstUse (before ++ earlier) c.call
 uses_behind before [] uses earlier c later is = absurd (omega (arith, ap length is, length-append earlier (c ∷ later)))
-uses_behind before (d ∷ calls) uses [] c later is =
-    subst (λ (x : CallLine). IsFirstUse (before ++ []) x.call) (sym (ap (λ (xs : List CallLine). get_or xs 0 d) is))
-    (subst (λ (xs : List CallLine). IsFirstUse xs d.call) (sym (append-nil before)) uses.0)
+uses_behind before (d ∷ calls) uses [] c later is = grind (arith, append-nil)
 uses_behind before (d ∷ calls) uses (x ∷ earlier) c later is =
-    let first : x ≡ d = ap (λ (xs : List CallLine). get_or xs 0 d) is in
-    let rest = uses_behind (before ++ d ∷ []) calls uses.1 earlier c later (ap (λ (xs : List CallLine). drop 1 xs) is) in
-    subst (λ (xs : List CallLine). IsFirstUse xs c.call) (append_assoc before (d ∷ []) earlier ∙ ap (λ (y : CallLine). before ++ y ∷ earlier) (sym first)) rest
+    grind (arith, uses_behind (before ++ d ∷ []) calls uses.1 earlier c later (ap (λ (xs : List CallLine). drop 1 xs) is), append_assoc)
 
 -- the call of a line
 pub record IsOf (l : CallLine) (k : Call) : Type 0 where

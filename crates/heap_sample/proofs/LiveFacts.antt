@@ -1,6 +1,6 @@
 -- Live samples with one more and one fewer: their rows, and what they stand for.
 use Rattle.std.proofs.Common.{refl, ◌≡◌, ℕ, ◌+◌, ◌≤◌, ◌==◌, Bool, true, false, not, List, [], ◌∷◌, cond, sym, ap, ◌∙◌, inl, inr, subst, arith, Option, Some}
-use Rattle.std.proofs.Common.{None, unwrap_or, nat_eq, Result, Ok, Err, is_err, IfOk}
+use Rattle.std.proofs.Common.{None, nat_eq, Result, Ok, Err, is_err, IfOk}
 use Rattle.std.specs.List.{sum_by, filter, IsDistinct, AllByRecursion}
 use Rattle.std.specs.Map.{keys_of, lookup, remove_entry}
 use Rattle.std.proofs.lemmas.Bool.{cases_Bool, true≢false, eqb-true}
@@ -10,6 +10,7 @@ use Rattle.std.proofs.lemmas.List.Sorted.{sum_by-IsPermutation}
 use Rattle.std.proofs.lemmas.Map.Views.{Contains-from_lookup, exact_unsigned_eq}
 use Rattle.std.specs.HashMap.{HashMap, PutsEntry, get}
 use Rattle.std.proofs.lemmas.Map.Keys.{IsDistinct-head, IsDistinct-tail}
+use Rattle.std.proofs.lemmas.Bool.Decides.{nat_tests}
 use Rattle.heap_sample.specs.declared.sample.Sample.{Sample}
 use Rattle.heap_sample.specs.declared.sample.ProfileRow.{ProfileRow}
 use Rattle.heap_sample.specs.Samples.{weight_in, HasLabel}
@@ -31,13 +32,7 @@ pub none_of : (len : ℕ) (live : List (ℕ × Sample)) → count_of len live �
 none_of len [] none = refl
 none_of len (s ∷ live) none =
     let c = sum_by-cons (λ (t : ℕ × Sample). cond (t.1.len == len) 1 0) s live in
-    let b = sum_by-cons (λ (t : ℕ × Sample). cond (t.1.len == len) t.1.weight 0) s live in
-    elim (cases_Bool (s.1.len == len)) [
-      | inl is ↦ (let one : cond {A = ℕ} (s.1.len == len) 1 0 ≡ 1 = rw is refl in absurd (omega (arith, none, c, one)))
-      | inr other ↦ (let zero : cond {A = ℕ} (s.1.len == len) 1 0 ≡ 0 = rw other refl in
-          let nothing : cond (s.1.len == len) s.1.weight 0 ≡ 0 = rw other refl in
-          omega (arith, b, nothing, none_of len live (omega (arith, none, c, zero))))
-    ]
+    grind (arith, nat_tests, none_of len live, sum_by-cons (λ (t : ℕ × Sample). cond (t.1.len == len) t.1.weight 0) s live)
 
 -- the rows of samples with one more, and with one fewer
 pub noted : (fewer more : List (ℕ × Sample)) (label : ℕ) (s : Sample) (rows now : List ProfileRow) → IsOneMore fewer (label, s) more → CountSamples fewer rows
@@ -53,16 +48,7 @@ forgotten fewer more label s rows now one is blocks bytes = grind arith
 -- the entry that a label has, taken out
 pub taken_out : (label : ℕ) (s : Sample) (es : List (ℕ × Sample)) → lookup (nat_eq label) es ≡ Some s → IsOneMore (remove_entry (nat_eq label) es) (label, s) es
 taken_out label s [] there f = absurd (none-some s there)
-taken_out label s (e ∷ es) there f =
-    let all = sum_by-cons f e es in
-    elim (cases_Bool (nat_eq label e.0)) [
-      | inl is ↦ (let value : e.1 ≡ s = ap (λ (o : Option Sample). unwrap_or o s) (rw is at there) in
-          let same : e ≡ (label, s) = ap (λ (k : ℕ). (k, e.1)) (sym (eqb-true label e.0 is)) ∙ ap (λ (t : Sample). (label, t)) value in
-          rw is (omega (arith, all, ap f same)))
-      | inr other ↦ (let rest = taken_out label s es (rw other at there) f in
-          let now = sum_by-cons f e (remove_entry (nat_eq label) es) in
-          rw other (omega (arith, all, rest, now)))
-    ]
+taken_out label s (e ∷ es) there f = grind (arith, nat_tests, taken_out label s es, sum_by-cons)
 
 -- no entry of a label is left
 none_left : (label : ℕ) (es : List (ℕ × Sample)) → AllByRecursion (λ k. nat_eq label k ≡ false) (keys_of es) → filter (λ e. not (label == e.0)) es ≡ es

@@ -1,11 +1,12 @@
 -- Live samples have the rows that are made of them, and no others.
-use Rattle.std.proofs.Common.{refl, ◌≡◌, ℕ, zero, suc, ◌+◌, ◌*◌, ◌<◌, ◌==◌, not, min, List, [], ◌∷◌, length, map, get_or, cond, sym, ap, ◌∙◌, inl, inr, arith}
+use Rattle.std.proofs.Common.{refl, ◌≡◌, ℕ, zero, suc, ◌*◌, ◌<◌, ◌==◌, not, min, List, [], ◌∷◌, length, map, get_or, cond, sym, ap, ◌∙◌, inl, inr, arith}
 use Rattle.std.specs.List.{sum_by, count_by, All, AllPairs}
-use Rattle.std.proofs.lemmas.Bool.{cases_Bool, cases_eq, cases_lt, cases_order, eq-eqb, eqb-true, ne_eqb, lt-ltb, le-ltb}
+use Rattle.std.proofs.lemmas.Bool.{cases_Bool, cases_lt, cases_order, eq-eqb, ne_eqb, le-ltb}
 use Rattle.std.proofs.lemmas.List.{length-map, get_or-map}
 use Rattle.std.proofs.lemmas.List.Elements.{All-nil, All-cons, All-tail, All-map, All-weaker}
 use Rattle.std.proofs.lemmas.List.Kept.{AllPairs-cons, AllPairs-filter}
 use Rattle.std.proofs.lemmas.List.Sums.{sum_by-cons}
+use Rattle.std.proofs.lemmas.Bool.Decides.{nat_tests}
 use Rattle.tc_units.specs.Sorted.{with_item, without_key}
 use Rattle.tc_units.proofs.Counts.{count-cons, count_some, one-true, one-false}
 use Rattle.tc_units.proofs.SortedFacts.{All-with_item, count-with_item}
@@ -46,11 +47,7 @@ others_stay : (n k : ℕ) (lens : List ℕ) → (k ≡ n → ⊥) → times n (w
 others_stay n k [] apart = refl
 others_stay n k (m ∷ lens) apart =
     let rest = others_stay n k lens apart in
-    let old = count-cons (λ i. i == n) m lens in
-    elim (cases_Bool (m == k)) [
-      | inl is ↦ (let none = one-false (m == n) (ne_eqb m n (λ e. apart (sym (eqb-true m k is) ∙ e))) in rw is (omega (arith, old, none, rest)))
-      | inr other ↦ (let new = count-cons (λ i. i == n) m (without k lens) in rw other (omega (arith, old, new, rest)))
-    ]
+    grind (arith, nat_tests, count-cons (λ i. i == n) m lens, one-false (m == n), apart, count-cons (λ i. i == n) m (without k lens))
 
 -- a length stands once where there are samples of it
 once : (n : ℕ) (live : List (ℕ × Sample)) → times n (lengths_of live) ≡ min 1 (count_of n live)
@@ -59,12 +56,7 @@ once n (s ∷ live) =
     let k = s.1.len in
     let new = count-with_item (λ len. len) (λ m. m == n) k (without k (lengths_of live)) in
     let all = count-cons (λ (t : ℕ × Sample). t.1.len == n) s live in
-    elim (cases_eq k n) [
-      | inl e ↦ (let one = one-true (k == n) (eq-eqb k n e) in
-          let none = ap (λ i. times i (without k (lengths_of live))) (sym e) ∙ gone k (lengths_of live) in
-          omega (arith, new, all, one, none))
-      | inr apart ↦ (let none = one-false (k == n) (ne_eqb k n apart) in omega (arith, new, all, none, others_stay n k (lengths_of live) apart, once n live))
-    ]
+    grind (arith, nat_tests, once n live, one-true (k == n), gone k (lengths_of live), one-false (k == n), others_stay n k (lengths_of live))
 
 rises_with : (k : ℕ) (lens : List ℕ) → Rise lens → times k lens ≡ 0 → Rise (with_len k lens)
 rises_with k [] rises none = AllPairs-cons (λ a b. a < b) k [] (All-nil _) rises
@@ -72,9 +64,7 @@ rises_with k (m ∷ lens) rises none =
     let all = count-cons (λ i. i == k) m lens in
     let above = below_rest (λ i. i) m lens rises in
     elim (cases_lt k m) [
-      | inl less ↦
-          (let more = All-weaker (λ b. m < b) (λ b. k < b) (λ b l. omega (arith, l, less)) lens above in
-          rw (lt-ltb k m less) (AllPairs-cons (λ a b. a < b) k (m ∷ lens) (All-cons (λ b. k < b) m lens less more) rises))
+      | inl less ↦ grind (arith, nat_tests, All-weaker (λ b. m < b) (λ b. k < b), AllPairs-cons (λ a b. a < b) k (m ∷ lens), All-cons (λ b. k < b) m lens less)
       | inr from ↦
           (let apart : m ≡ k → ⊥ = λ e. (let one = one-true (m == k) (eq-eqb m k e) in omega (arith, none, all, one)) in
           let first = All-with_item (λ len. len) (λ b. m < b) k lens (omega (arith, from, apart)) above in
@@ -99,13 +89,7 @@ at_each g live n [] = omega arith
 at_each g live n (m ∷ lens) =
     let c = g (row_of live n) in
     let first = sum_by-cons (λ (r : ProfileRow). cond (r.len == n) (g r) 0) (row_of live m) (map (row_of live) lens) in
-    let total : times n (m ∷ lens) * c ≡ cond (m == n) 1 0 * c + times n lens * c =
-    ap (λ t. t * c) (count-cons (λ i. i == n) m lens) ∙ add_mul (cond (m == n) 1 0) (times n lens) c in
-    let part : cond (m == n) (g (row_of live m)) 0 ≡ cond (m == n) 1 0 * c = elim (cases_eq m n) [
-      | inl e ↦ (let same = ap (λ i. g (row_of live i)) e in rw (eq-eqb m n e) (omega (arith, same)))
-      | inr apart ↦ rw (ne_eqb m n apart) (omega arith)
-    ] in
-    omega (arith, first, total, part, at_each g live n lens)
+    grind (arith, nat_tests, at_each g live n lens, count-cons (λ i. i == n) m lens, add_mul (cond (m == n) 1 0) (times n lens) c, g (row_of live m))
 
 some_times : (c b : ℕ) → (c ≡ 0 → b ≡ 0) → min 1 c * b ≡ b
 some_times zero b none = omega (arith, none refl)
@@ -190,7 +174,4 @@ same_rows (x ∷ xs) (y ∷ ys) a b blocks bytes = elim (cases_order x.len y.len
 ]
 
 pub only_rows : (live others : List (ℕ × Sample)) (rows : List ProfileRow) → IsRowsOf live rows → AreSame live others → rows ≡ rows_of others
-only_rows live others rows is same =
-    let own = made others in
-    same_rows rows (rows_of others) is.are own.are (λ n. is.counts.blocks n ∙ same (λ s. cond (s.1.len == n) 1 0) ∙ sym (own.counts.blocks n))
-    (λ n. is.counts.bytes n ∙ same (λ s. cond (s.1.len == n) s.1.weight 0) ∙ sym (own.counts.bytes n))
+only_rows live others rows is same = grind (arith, made others, same_rows rows (rows_of others) is.are, is.counts.blocks, same, is.counts.bytes)

@@ -1,11 +1,11 @@
 -- Rows by rising length: with a row more, with one changed and with one fewer.
-use Rattle.std.proofs.Common.{refl, ◌≡◌, ℕ, suc, ◌+◌, ◌-◌, ◌<◌, ◌≤◌, ◌==◌, nat_lt, List, [], ◌∷◌, length, get_or, cond, sym, ap, ◌∙◌, inl, inr}
-use Rattle.std.proofs.Common.{arith, insert, remove}
+use Rattle.std.proofs.Common.{refl, ◌≡◌, ℕ, suc, ◌+◌, ◌-◌, ◌<◌, ◌≤◌, ◌==◌, nat_lt, List, [], ◌∷◌, length, get_or, cond, sym, ap, ◌∙◌, arith, insert, remove}
 use Rattle.std.specs.List.{sum_by, AllPairs}
 use Rattle.std.proofs.lemmas.Bool.{cases_lt, cases_eq, ne_eqb, eq-eqb, lt-ltb, ltb-true}
 use Rattle.std.proofs.lemmas.List.Edits.{length-insert, get_or-insert_below, get_or-insert_at, get_or-insert_above, length-remove, get_or-remove_below, get_or-remove_above}
 use Rattle.std.proofs.lemmas.List.Sums.{sum_by-cons, sum_by-remove}
 use Rattle.std.specs.List.Sorted.{IsPartitionedBy}
+use Rattle.std.proofs.lemmas.Bool.Decides.{nat_tests}
 use Rattle.heap_sample.specs.declared.sample.ProfileRow.{ProfileRow}
 use Rattle.heap_sample.specs.Rows.{blocks_at, AreRows, IsPlaceOf, IsRowAt}
 
@@ -21,12 +21,7 @@ sum_one : {X : Type 0} (f : X → ℕ) (xs : List X) (k : ℕ) (d : X) → k < l
     → sum_by f xs ≡ f (get_or xs k d)
 sum_one f xs k d inside others =
     let left = sum_by-remove f xs k d inside in
-    let size = length-remove xs k inside in
-    let none = sum_none f (remove xs k) d (λ i l. elim (cases_lt i k) [
-      | inl below ↦ ap f (get_or-remove_below xs k d i below inside) ∙ others i (omega (arith, below, inside)) (λ same. omega (arith, below, same))
-      | inr above ↦ ap f (get_or-remove_above xs k d i above inside) ∙ others (i + 1) (omega (arith, size, l)) (λ same. omega (arith, above, same))
-    ]) in
-    omega (arith, left, none)
+    grind (arith, nat_tests, length-remove xs k inside, sum_none f (remove xs k) d, get_or-remove_below xs k d, others, get_or-remove_above xs k d)
 
 abbrev pub Rising : List ProfileRow → Type 0
 Rising rows = AllPairs (λ (a b : ProfileRow). a.len < b.len) rows
@@ -38,25 +33,7 @@ parted rows len rising i j d le inside below = grind (arith, cases_lt, lt-ltb, l
 module _ (rows : List ProfileRow) (len place : ℕ) (rising : Rising rows) (at : IsPlaceOf rows len place) where
   -- at a length's place stands its row, if any
   pub found : (g : ProfileRow → ℕ) (d : ProfileRow) → 0 < sum_by (λ r. cond (r.len == len) (g r) 0) rows → (place < length rows) × ((get_or rows place d).len ≡ len)
-  found g d some =
-      let none : ((k : ℕ) → k < length rows → ((get_or rows k d).len ≡ len → ⊥)) → ⊥ = λ apart.
-      let zero = sum_none (λ (r : ProfileRow). cond (r.len == len) (g r) 0) rows d (λ k l. rw (ne_eqb (get_or rows k d).len len (apart k l)) refl) in
-      omega (arith, some, zero) in
-      elim (cases_lt place (length rows)) [
-        | inr past ↦ absurd (none (λ k l same. omega (arith, at.before k d (omega (arith, l, past)), same)))
-        | inl inside ↦ elim (cases_eq (get_or rows place d).len len) [
-          | inl here ↦ (inside, here)
-          | inr other ↦ absurd (none (λ k l same. elim (cases_lt k place) [
-            | inl before ↦ omega (arith, at.before k d before, same)
-            | inr from ↦ elim (cases_eq k place) [
-              | inl e ↦ other (ap (λ (i : ℕ). (get_or rows i d).len) (sym e) ∙ same)
-              | inr apart ↦ (let least = at.behind place d (omega arith) inside in
-                  let more = rising place k d (omega (arith, from, apart)) l in
-                  omega (arith, least, more, same))
-            ]
-          ]))
-        ]
-      ]
+  found g d some = grind (arith, nat_tests, sum_none (λ (r : ProfileRow). cond (r.len == len) (g r) 0) rows d, g)
 
   -- and that row is the only one of its length
   pub only_one : (g : ProfileRow → ℕ) (d : ProfileRow) → place < length rows → (get_or rows place d).len ≡ len → sum_by (λ r. cond (r.len == len) (g r) 0) rows ≡ g (get_or rows place d)

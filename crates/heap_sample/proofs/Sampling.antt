@@ -1,13 +1,14 @@
 -- The samples of calls with one call more: sums, live samples, the peak.
-use Rattle.std.proofs.Common.{refl, ◌≡◌, ℕ, ◌+◌, ◌/◌, ◌<◌, ◌≤◌, Bool, true, false, not, ◌||◌, ◌&&◌, List, [], ◌∷◌, ◌++◌, length, take, cond, nat_lt}
-use Rattle.std.proofs.Common.{slice_index, slice_set, sym, ap, subst, ◌∙◌, inl, inr, arith, ◌==◌, get_or, None}
+use Rattle.std.proofs.Common.{refl, ◌≡◌, ℕ, ◌+◌, ◌<◌, ◌≤◌, Bool, true, false, not, ◌||◌, ◌&&◌, List, [], ◌∷◌, ◌++◌, length, take, cond}
+use Rattle.std.proofs.Common.{slice_index, slice_set, sym, ap, subst, ◌∙◌, inl, inr, arith, ◌==◌, None}
 use Rattle.std.specs.List.{filter, sum_by}
-use Rattle.std.proofs.lemmas.Bool.{cases_Bool, cases_lt, cases_eq, eq-eqb, ne_eqb, lt-ltb, le-ltb}
+use Rattle.std.proofs.lemmas.Bool.{cases_Bool, cases_lt, cases_eq, eq-eqb, ne_eqb, le-ltb}
 use Rattle.std.proofs.lemmas.List.{append-nil, append_assoc, length-append, length-set, get_or-set_same, get_or-set_other, take-append-le, take_all}
 use Rattle.std.proofs.lemmas.List.Elements.{filter-append}
 use Rattle.std.proofs.lemmas.List.Folds.{list_any-append}
 use Rattle.std.proofs.lemmas.List.Sums.{sum_by-cons, sum_by-append, sum_by_push, sum_by-le-sum_by, get_or-le-sum_by}
 use Rattle.std.proofs.lemmas.Option.{none-some}
+use Rattle.std.proofs.lemmas.Bool.Decides.{nat_tests}
 use Rattle.heap_sample.proofs.LiveFacts.{at_most}
 use Rattle.tc_model.specs.Blocks.{frees, freed_in, answer_to, allocates}
 use Rattle.tc_model.specs.declared.calls.Call.{Call}
@@ -30,16 +31,7 @@ samples_push step earlier (d ∷ calls) c = grind (arith, append_assoc, (samples
 sum_filtered : {X : Type 0} (f : X → ℕ) (q : X → Bool) (xs : List X) → sum_by f (filter q xs) ≡ sum_by (λ x. cond (q x) (f x) 0) xs
 sum_filtered f q [] = refl
 sum_filtered {X} f q (x ∷ xs) =
-    let all = sum_by-cons (λ (y : X). cond (q y) (f y) 0) x xs in
-    let rest = sum_filtered f q xs in
-    elim (cases_Bool (q x)) [
-      | inl pass ↦ (let first : filter q (x ∷ xs) ≡ x ∷ filter q xs = rw pass refl in
-          let one : cond {A = ℕ} (q x) (f x) 0 ≡ f x = rw pass refl in
-          omega (arith, ap (sum_by f) first ∙ sum_by-cons f x (filter q xs), rest, all, one))
-      | inr stop ↦ (let first : filter q (x ∷ xs) ≡ filter q xs = rw stop refl in
-          let none : cond {A = ℕ} (q x) (f x) 0 ≡ 0 = rw stop refl in
-          omega (arith, ap (sum_by f) first, rest, all, none))
-    ]
+    grind (arith, nat_tests, sum_filtered f q xs, sum_by-cons (λ (y : X). cond (q y) (f y) 0) x xs, q x, f x, sum_by-cons f x (filter q xs))
 
 twice : {X : Type 0} (p q r : X → Bool) (xs : List X) → ((x : X) → r x ≡ (p x && q x)) → filter r xs ≡ filter q (filter p xs)
 twice p q r [] both = refl
@@ -60,13 +52,7 @@ freed_push label calls c = list_any-append (λ (d : CallLine). frees label d.cal
 -- the sample of a call is live behind it, where its label is new
 new_lives : (step before : ℕ) (calls : List CallLine) (call : Call) (answer : Answer) → IsFirstUse calls call
     → filter (λ s. not (freed_in s.0 calls || frees s.0 call)) (sample_under step before call answer) ≡ sample_under step before call answer
-new_lives step before calls (Malloc l n) (Block a len) first =
-    let live : not (freed_in l.0 calls || false) ≡ true = rw first.0.not_freed refl in
-    elim (cases_Bool (nat_lt (before / step) ((before + n) / step))) [
-      | inl passed ↦ rw passed (rw live refl)
-      | inr not_it ↦ rw not_it refl
-    ]
-new_lives step before calls call answer first = refl
+new_lives step before calls call answer first = grind (arith)
 
 not_or : (a b : Bool) → not (a || b) ≡ (not a && not b)
 not_or true b = refl
@@ -130,9 +116,7 @@ followed calls c old new inside f is first =
     let weight : weight_in new.live ≡ weight_in (live_samples old.step (calls ++ c ∷ [])) = live (λ s. s.1.weight) in
     let count : new.calls ≡ length calls + 1 = f.calls ∙ ap (λ (n : ℕ). n + 1) is.count in
     let peak : IsPeak old.step (calls ++ c ∷ []) new.peak = elim (cases_lt old.peak.bytes (weight_in new.live)) [
-      | inl more ↦ subst (λ (p : Peak). IsPeak old.step (calls ++ c ∷ []) p)
-          (sym (f.peak ∙ rw (lt-ltb old.peak.bytes (weight_in new.live) more) (ap (λ (n : ℕ). record { bytes = weight_in new.live; call = n }) count)))
-          (risen old.step calls c old.peak is.peak (weight_in new.live) weight more)
+      | inl more ↦ grind (arith, nat_tests, risen old.step calls c old.peak is.peak (weight_in new.live) weight more)
       | inr less ↦ subst (λ (p : Peak). IsPeak old.step (calls ++ c ∷ []) p)
           (sym (f.peak ∙ rw (le-ltb old.peak.bytes (weight_in new.live) less) refl)) (stayed old.step calls c old.peak is.peak (weight_in new.live) weight less)
     ] in
@@ -154,26 +138,18 @@ none_under label step before call answer other = refl
 
 no_sample : (label step : ℕ) (earlier calls : List CallLine) → answer_to label calls ≡ None → sum_by (at_label label) (samples_behind step earlier calls) ≡ 0
 no_sample label step earlier [] none = refl
-no_sample label step earlier (c ∷ calls) none =
-    elim (cases_Bool (allocates label c.call)) [
-      | inl is ↦ absurd (none-some c.answer (sym (rw is at none)))
-      | inr other ↦ (let rest = no_sample label step (earlier ++ c ∷ []) calls (rw other at none) in
-          let none' = none_under label step (asked_by c.thread.0 earlier) c.call c.answer other in
-          omega (arith, sum_by-append (at_label label) (sample_of step earlier c) (samples_behind step (earlier ++ c ∷ []) calls), none', rest))
-    ]
+no_sample label step earlier (c ∷ calls) none = grind (arith, nat_tests, no_sample label step (earlier ++ c ∷ []) calls, none-some, none_under, sum_by-append)
 
 -- an allocation's label that is new is none of a live sample
 pub fresh : (calls : List CallLine) (call : Call) (noted : Noted) → IsProfileOf calls noted → IsFirstUse calls call → IsFresh noted.live call
-fresh calls (Malloc l n) noted is first = (
-  (λ has.
-      let one : at_label l.0 (get_or noted.live has.0 has.1) ≡ 1 = ap (at_label l.0) has.3 ∙ rw (eq-eqb has.1.0 l.0 has.4) refl in
-      let some = get_or-le-sum_by (at_label l.0) noted.live has.0 has.1 has.2 in
-      let among = is.live (at_label l.0) in
-      let all = sum_filtered (at_label l.0) (λ s. not (freed_in s.0 calls)) (samples noted.step calls) in
-      let counted : ℕ × Sample → ℕ = λ s. cond (not (freed_in s.0 calls)) (at_label l.0 s) 0 in
-      let fewer = sum_by-le-sum_by counted (at_label l.0) (samples noted.step calls) (λ s. at_most (not (freed_in s.0 calls)) (at_label l.0 s)) in
-      let none = no_sample l.0 noted.step [] calls first.0.not_answered in
-      omega (arith, one, some, among, all, fewer, none)),
-  first.1,
+fresh calls (Malloc l n) noted is first = grind (
+  arith,
+  nat_tests,
+  get_or-le-sum_by (at_label l.0) noted.live,
+  is.live (at_label l.0),
+  sum_filtered (at_label l.0) (λ s. not (freed_in s.0 calls)) (samples noted.step calls),
+  sum_by-le-sum_by,
+  at_most,
+  no_sample l.0 noted.step,
 )
 fresh calls call noted is first = first

@@ -21,21 +21,10 @@ pub add_next-requires-clause-thread : goal.add_next-requires-clause-thread
 add_next-requires-clause-thread c = thread_at c.args.lines.now c.loop-line.line-index _ _ _ c.requires.threads c.loop-line-test.true c.loop-line.invariant.2
 
 pub add_next-requires-clause-behind : goal.add_next-requires-clause-behind
-add_next-requires-clause-behind c =
-    let lines = c.args.lines.now in
-    let i = c.loop-line.line-index in
-    (take i lines, c.loop-line.invariant.0, first_at lines i _ c.requires.labels c.loop-line-test.true, omega (arith, length-take i lines, c.loop-line-test.true, c.requires.few))
+add_next-requires-clause-behind c = grind (arith, first_at, length-take)
 
 pub loop-line-preserved : goal.loop-line-preserved
-loop-line-preserved c =
-    let lines = c.args.lines.now in
-    let i = c.loop-line.line-index in
-    let added = c.in_ok-add_next.ensures in
-    let next = added.of_calls (take i lines) c.loop-line.invariant.0 (first_at lines i _ c.requires.labels c.loop-line-test.true) in (
-      subst (λ (calls : List CallLine). IsProfileOf calls c.add_next.new.self) (sym (take_more lines i _ c.loop-line-test.true)) next,
-      added.step ∙ c.loop-line.invariant.1,
-      added.threads ∙ c.loop-line.invariant.2,
-    )
+loop-line-preserved c = grind (arith, first_at, take_more)
 
 pub returns-clause-step : goal.returns-clause-step
 returns-clause-step c = c.loop-line.invariant.1
