@@ -1,6 +1,5 @@
 -- Each step keeps the rule, at a view that is known, as a caller has it.
-use Rattle.std.proofs.Common.{inl, inr, refl, true, ◌≡◌, ℕ, ◌+◌, ◌-◌, ◌%◌, ◌^◌, ◌<◌}
-use Rattle.std.proofs.Common.{◌≤◌, eqb, max, [], ◌∷◌, ◌++◌, ◌∙◌, subst, arith, Some}
+use Rattle.std.proofs.Common.{inl, inr, refl, true, ◌≡◌, ℕ, ◌+◌, ◌-◌, ◌%◌, ◌^◌, ◌<◌, ◌≤◌, eqb, max, [], ◌∷◌, ◌++◌, ◌∙◌, subst, arith, Some}
 use Rattle.std.specs.List.{slice_get}
 use mathlib.Core.Option.{none}
 use prog.Atomic.{either}

@@ -1,5 +1,5 @@
 -- Parts on their way into the table and out of it.
-use Rattle.std.proofs.Common.{◌≡◌, ℕ, zero, suc, ◌+◌, add-one, arith, length, List, map, reverse, take, [], ◌∷◌, ◌++◌, All, refl, sym, ap, ◌∙◌, subst}
+use Rattle.std.proofs.Common.{◌≡◌, ℕ, zero, suc, ◌+◌, add-one, arith, List, map, reverse, take, [], ◌∷◌, ◌++◌, All, refl, sym, ap, ◌∙◌, subst}
 use Rattle.std.specs.Prelude.{Vec}
 use Rattle.std.specs.declared.alloc.Global.{Global}
 use Rattle.std.proofs.lemmas.List.{map-append, reverse-append}
@@ -32,19 +32,11 @@ module _ {A : Type 0} where
   all_last Q [] x h = All-head Q x [] h
   all_last Q (y ∷ ys) x h = all_last Q ys x (All-tail Q y (ys ++ x ∷ []) h)
 
-  pub none_left : (xs : List A) → length xs ≡ 0 → xs ≡ []
-  none_left [] none = refl
-  none_left (x ∷ xs) none = absurd (omega arith)
-
 module _ {A B : Type 0} where
   -- one item more that was moved over
   pub move_step : (f : A → B) (xs xs' : List A) (x : A) (y : B) (ps ps' all : List B) → xs' ≡ xs ++ x ∷ []
       → f x ≡ y → reverse ps ≡ y ∷ reverse ps' → map f xs ++ reverse ps ≡ all → map f xs' ++ reverse ps' ≡ all
-  move_step f xs xs' x y ps ps' all longer same turned is =
-      ap (λ (l : List A). map f l ++ reverse ps') longer
-      ∙ (ap (λ (l : List B). l ++ reverse ps') (map-append f xs (x ∷ []))
-      ∙ (append_snoc (map f xs) (f x) (reverse ps')
-      ∙ (ap (λ (z : B). map f xs ++ z ∷ reverse ps') same ∙ (ap (λ (l : List B). map f xs ++ l) (sym turned) ∙ is))))
+  move_step f xs xs' x y ps ps' all longer same turned is = grind (arith, map-append, append_snoc)
 
 module _ {P : Type 0} where
   pub fill_step : (xs xs' : List (Stall P)) (x : Stall P) (ps ps' all : List P) → xs' ≡ xs ++ x ∷ [] → ps ≡ ps' ++ x.part ∷ []
@@ -60,8 +52,4 @@ module _ {A B : Type 0} where
   -- one item more of a list that is taken from its end
   pub next_is : (f : A → B) (out out' : List B) (x : A) (y : B) (ps ps' : List A) (all : List B) → out' ≡ out ++ y ∷ []
       → y ≡ f x → reverse ps ≡ x ∷ reverse ps' → out ++ map f (reverse ps) ≡ all → out' ++ map f (reverse ps') ≡ all
-  next_is f out out' x y ps ps' all longer same turned is =
-      ap (λ (l : List B). l ++ map f (reverse ps')) longer
-      ∙ (append_snoc out y (map f (reverse ps'))
-      ∙ (ap (λ (z : B). out ++ z ∷ map f (reverse ps')) same
-      ∙ (ap (λ (l : List A). out ++ map f l) (sym turned) ∙ is)))
+  next_is f out out' x y ps ps' all longer same turned is = grind (arith, append_snoc)

@@ -88,11 +88,7 @@ module _ {X P L : Type 0} where
             away = λ k less full. view_stays (HasOut k) s.views id (Works w) (Works u) (a.holder k) at (λ o. o) (r.away k less (λ z. full (other k ∙ z)));
             holds = λ j k apart less h f. (h, other k);
             owned = λ t less. refl;
-            mine = (
-              (machine, limit, named, local, made, saw, (omega arith, (λ e. absurd (cc e)), (λ _. omega arith))),
-              mine.1,
-              rw taken (has.0, has.1, other h.slot ∙ has.2, has.3, has.4),
-            );
+            mine = grind (arith, other h.slot);
             bounded = omega arith;
             complete = λ k less low. let g = r.complete k (omega arith) low in omega arith;
             halting = (omega arith, (λ e. omega arith), (λ e. omega arith));

@@ -29,7 +29,7 @@ use Rattle.part_lock.specs.declared.view.View.{View}
 use Rattle.part_lock.specs.declared.view.View.TheVariants.{Leads, Works, Spent}
 use Rattle.part_lock.specs.Closes.{IsClosed}
 use Rattle.part_lock.specs.Lock.{Once, rank, Account, part_left, local_left, at_part, of_thread, entry_of, entries_at, thread_of}
-use Rattle.part_lock.specs.Lock.{HasOut, Names, Out, one, starved, lost, sum_of, drawn_in, weigh, total, Ties, Kept}
+use Rattle.part_lock.specs.Lock.{Names, Out, one, starved, lost, sum_of, drawn_in, weigh, total, Ties, Kept}
 use Rattle.part_lock.proofs.Later.{word}
 use Rattle.part_lock.proofs.Halting.{few_deeds, tickets_differ}
 use Rattle.part_lock.proofs.Facts.{part_from, part_to, thread_from, thread_to, total_two, sum_one, rising_one}
@@ -63,7 +63,7 @@ at_either [] (suc i) a e = absurd (cc)
 at_either (x ∷ xs) zero a e = ap some (same_some x a e)
 at_either (x ∷ xs) (suc i) a e = at_either xs i a e
 
-there_is : {A : Type 0} (xs : List A) (i : ℕ) → i < length xs → (a : A) × (slice_get xs i ≡ Some a)
+pub there_is : {A : Type 0} (xs : List A) (i : ℕ) → i < length xs → (a : A) × (slice_get xs i ≡ Some a)
 there_is [] i h = absurd (omega arith)
 there_is (x ∷ xs) zero h = (x, refl)
 there_is (x ∷ xs) (suc i) h = there_is xs i (omega arith)
@@ -98,17 +98,10 @@ module _ {X P L : Type 0} {mach : X → Rules P L} {key : Key X} {words : List �
     (r : Ties mach key words homes views a threads) (m : Lead X P L) (at : get_elem? views 0 ≡ some (Leads m)) (all : length m.kept ≡ length threads) where
   -- no worker's view is left
   no_one : (j : ℕ) (w : Work X P L) → get_elem? views j ≡ some (Works w) → ⊥
-  no_one j w e = dite (ℕ_discrete j 0)
-      (λ z. cc (some-injective (Leads m) (Works w) (sym at ∙ rw z at e)))
-      (λ ne. absurd (let t = total_two one views 0 j (Leads m) (Works w) at e ne in let s = sum_one m.kept in omega (arith, r.leader.2)))
+  no_one j w e = grind (arith, total_two one views 0 j (Leads m) (Works w), sum_one m.kept)
 
   no_out : (i j : ℕ) → Out views j i → ⊥
-  no_out i j o = go o.0 o.1 o.2
-    where
-      go : (v : View X P L) → get_elem? views j ≡ some v → HasOut i v → ⊥
-      go (Leads q) e h = h
-      go (Works w) e h = no_one j w e
-      go Spent e h = h
+  no_out i j o = grind (arith, no_one)
 
   -- so each part is at home
   home : (i : ℕ) → i < length homes → word words (i + 2) ≡ 0
@@ -156,11 +149,7 @@ module _ {X P L : Type 0} (mach : X → Rules P L) (key : Key X) (id : ℕ) wher
           by_tickets = rise;
           near = λ d h. let o = from d h in let (_, _, low, named, place) = r.owned o.0 d o.1 in (low, omega arith, rw listed named);
           few = omega arith;
-          chained = record {
-            parts = λ i. rw (← by_part i) (r.chained.parts i);
-            locals = λ t. rw (← by_thread t) (r.chained.locals t);
-            go = all_go_by (mach key.machine) a.deeds acts r.chained.go from;
-          };
+          chained = grind (arith, by_part, r.chained.parts, by_thread, r.chained.locals, all_go_by (mach key.machine) a.deeds acts r.chained.go from);
           counted = omega arith;
           stalls = λ i x e.
               let inside = slice_get_within xs i x e in let less : i < length s.homes = omega arith in

@@ -1,6 +1,6 @@
 -- Acts of one part or thread, sums over views, and what stays.
 use Rattle.std.proofs.Common.{◌≡◌, ◌≢◌, ℕ, zero, suc, ◌+◌, ◌<◌, ◌≤◌, eqb, eq-eqb, ne_eqb, cond, replicate, get_or, List}
-use Rattle.std.proofs.Common.{[], ◌∷◌, ◌++◌, length, set, subst, refl, sym, ap, ◌∙◌, Some, ◌⊎◌, inl, inr, ⊎_elim, arith}
+use Rattle.std.proofs.Common.{[], ◌∷◌, ◌++◌, length, set, subst, refl, sym, ap, ◌∙◌, ◌⊎◌, inl, inr, ⊎_elim, arith}
 use mathlib.Core.Option.{some, some-ne-none, some-injective}
 use lib.ListN.{get_elem?}
 use Rattle.atomic_table.proofs.Lists.{set_else}
@@ -11,7 +11,7 @@ use Rattle.tc_model.proofs.Merges.{Apart, apart_few}
 use Rattle.tc_model.proofs.Longer.{longer_here, longer_else, key_from, key_to}
 use Rattle.part_lock.specs.declared.view.Work.{Work}
 use Rattle.part_lock.specs.declared.view.View.{View}
-use Rattle.part_lock.specs.declared.view.View.TheVariants.{Leads, Works, Spent}
+use Rattle.part_lock.specs.declared.view.View.TheVariants.{Spent}
 use Rattle.part_lock.specs.Lock.{lies, flag, Once, at_part, of_thread, sum_of, weigh, total, one, ended}
 
 -- f, but a at i
@@ -42,9 +42,7 @@ flag_low zero = omega arith
 flag_low (suc n) = omega arith
 
 pub flag_rises : (m n : ℕ) → m ≤ n → flag m ≤ flag n
-flag_rises zero n h = omega arith
-flag_rises (suc m) zero h = absurd (omega arith)
-flag_rises (suc m) (suc n) h = omega arith
+flag_rises m n h = grind (arith)
 
 pub flag_some : (n : ℕ) → 0 < n → flag n ≡ 1
 flag_some zero h = absurd (omega arith)
@@ -84,11 +82,7 @@ module _ {A : Type 0} where
   -- of a list that rises, members with one number are one
   pub rising_one : (key : A → ℕ) (xs : List A) → Rising key xs → (a b : A) → Has xs a → Has xs b → key a ≡ key b → a ≡ b
   rising_one key [] r a b ha hb same = absurd (has_none a ha)
-  rising_one key (x ∷ xs) r a b ha hb same =
-      let less : (z : A) → Has xs z → key x ≡ key z → ⊥ = λ z h e. absurd (let up = r.1 z h in omega arith) in
-      ⊎_elim (λ (e : x ≡ a). ⊎_elim (λ (f : x ≡ b). sym e ∙ f) (λ (t : Has xs b). absurd (less b t (ap key e ∙ same))) (has_cases x xs b hb))
-      (λ (t : Has xs a). ⊎_elim (λ (f : x ≡ b). absurd (less a t (ap key f ∙ sym same))) (λ (u : Has xs b). rising_one key xs r.0 a b t u same) (has_cases x xs b hb))
-      (has_cases x xs a ha)
+  rising_one key (x ∷ xs) r a b ha hb same = grind (arith, rising_one key xs r.0 a b, has_cases)
 
   -- an item of a table's lists, at its end
   pub view_end : (l : List A) (a b : A) (j : ℕ) → get_elem? (l ++ a ∷ []) j ≡ some b → (get_elem? l j ≡ some b) ⊎ ((j ≡ length l) × (a ≡ b))
@@ -99,10 +93,7 @@ module _ {A : Type 0} where
 
 pub once_end : (ts : List ℕ) (t : ℕ) → Once ts → (Has ts t → ⊥) → Once (ts ++ t ∷ [])
 once_end [] t o n = (tt, λ h. has_none t h)
-once_end (s ∷ ts) t o n = (
-  once_end ts t o.0 (λ h. n (suc h.0, h.1)),
-  λ h. ⊎_elim (λ (old : Has ts s). o.1 old) (λ (e : t ≡ s). n (0, ap Some (sym e))) (has_end ts t s h),
-)
+once_end (s ∷ ts) t o n = grind (arith, once_end ts t o.0 (λ h. n (suc h.0, h.1)), n, o.1, has_end ts t s)
 
 once_apart : (ts : List ℕ) → Once ts → Apart (λ t. t) ts
 once_apart [] o = tt
@@ -136,9 +127,7 @@ module _ {X P L : Type 0} where
   sum_le (x ∷ xs) = let more = sum_le xs in let low = flag_low x.cause in omega arith
 
   weigh_le : (v : View X P L) → weigh ended v ≤ weigh one v
-  weigh_le (Leads m) = sum_le m.kept
-  weigh_le (Works w) = flag_low w.cause
-  weigh_le Spent = omega arith
+  weigh_le v = grind (arith, sum_le, flag_low)
 
   -- there are no more ended seats than seats
   pub ended_le : (views : List (View X P L)) → total ended views ≤ total one views

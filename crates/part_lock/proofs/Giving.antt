@@ -12,7 +12,7 @@ use Rattle.atomic_table.proofs.Lists.{set_here, set_else}
 use Rattle.tc_model.specs.declared.board.Act.{Act}
 use Rattle.tc_model.specs.declared.board.Entry.{Entry}
 use Rattle.tc_model.specs.Run.{Rules, start}
-use Rattle.tc_model.specs.Chains.{AreChainedFrom, part_after, local_after, threads_of}
+use Rattle.tc_model.specs.Chains.{part_after, local_after}
 use Rattle.tc_model.specs.Chains as chains
 use Rattle.tc_model.specs.Rises.{Has}
 use Rattle.tc_model.proofs.Members.{at_end, has_end}
@@ -22,8 +22,7 @@ use Rattle.part_lock.specs.declared.view.Key.{Key}
 use Rattle.part_lock.specs.declared.view.Stall.{Stall}
 use Rattle.part_lock.specs.declared.view.Hold.{Hold}
 use Rattle.part_lock.specs.declared.view.Visit.{Visit}
-use Rattle.part_lock.specs.declared.view.Stage.{Stage}
-use Rattle.part_lock.specs.declared.view.Stage.TheVariants.{Idle, Taken, Drawn}
+use Rattle.part_lock.specs.declared.view.Stage.TheVariants.{Taken, Drawn}
 use Rattle.part_lock.specs.declared.view.Work.{Work}
 use Rattle.part_lock.specs.declared.view.View.{View}
 use Rattle.part_lock.specs.declared.view.View.TheVariants.{Works}
@@ -61,11 +60,7 @@ module _ {X P L : Type 0} (mach : X → Rules P L) (key : Key X) (n id : ℕ) (w
             (λ ne. view_stays (HasOut k) s.views id (Works w) (Works u) (a.holder k) at (λ o. absurd (ne (sym (out k o)))) (r.away k less (λ z. full (now.other k ne ∙ z))));
         holds = λ j k apart less h' f. (h', now.other k (λ e. apart (sym h' ∙ (ap a.holder e ∙ by))));
         owned = λ t less. refl;
-        mine = (
-          (machine, events, named, local, made, saw_all, (caused.0, (λ e. omega arith), (λ e. omega arith))),
-          mine.1,
-          tt,
-        );
+        mine = grind (arith);
         bounded = omega arith;
         complete = λ k less low'. let g = r.complete k (omega arith) low' in omega arith;
         halting = (omega arith, (λ e. omega arith), (λ e. omega arith));
@@ -76,35 +71,13 @@ module _ {X P L : Type 0} (mach : X → Rules P L) (key : Key X) (n id : ℕ) (w
   returns_part taken same_entries same_part s kept wide at _ =
       let r = kept.3 in let a : Account P L = kept.1 in let threads : List ℕ = kept.2 in
       let mine = r.each id (Works w) at in let has = rw taken at mine.2 in let none_drawn : drawn_in w.stage ≡ 0 = ap drawn_in taken in
-      let (_, _, _, _, _, _, caused) = mine.0 in (
-        Works (left h w.cause w.noted w),
-        gives,
-        tt,
-        (kept.0, a, threads, back_moves s a threads w.cause w.noted r at same_entries same_part has (λ k o. rw taken at o) (omega arith) (omega arith) caused),
-        rw taken refl,
-      )
+      grind (arith, back_moves s a threads w.cause w.noted r)
 
   pub fails_part : ((w.stage ≡ Taken h) ⊎ ((t : ℕ) × (w.stage ≡ Drawn h t))) → w.cause ≡ 0 → x.entries.items ≡ h.found → x.part ≡ h.part
       → Allows (Kept mach key) n id (Works w, (h.slot, x) ∷ []) (h.slot + 2) (λ _. 0) (λ _ m. Fails (step n (h.slot + 2) 0 0 none) (Works w, (h.slot, x) ∷ []) 0 m)
   fails_part held_so fresh_is same_entries same_part s kept wide at _ =
       let r = kept.3 in let a : Account P L = kept.1 in let threads : List ℕ = kept.2 in
-      let mine = r.each id (Works w) at in
-      let has : Holding mach key.machine key.events s.words (length s.homes) a threads id w.thread h =
-      ⊎_elim (λ (e : w.stage ≡ Taken h). rw e at mine.2) (λ (e : (t : ℕ) × (w.stage ≡ Drawn h t)). (rw e.1 at mine.2).0) held_so in
-      let out : (k : ℕ) → IsOut k w.stage → h.slot ≡ k = λ k o. ⊎_elim (λ (e : w.stage ≡ Taken h). rw e at o) (λ (e : (t : ℕ) × (w.stage ≡ Drawn h t)). rw e.1 at o) held_so in
-      let one_drawn = drawn_low w.stage in let low : flag (w.cause - 1) ≡ 0 = ap (λ (z : ℕ). flag (z - 1)) fresh_is in
-      let caused : Caused {P = P} {L = L} mach key.machine key.events s.words (length s.homes) a threads 2 false = (omega arith, (λ e. absurd (cc e)), (λ e. absurd (omega arith))) in (
-        Works (left h 2 false w),
-        gives,
-        tt,
-        (kept.0, a, threads, back_moves s a threads 2 false r at same_entries same_part has out (omega arith) (omega arith) caused),
-        ⊎_elim (λ (e : w.stage ≡ Taken h). rw e refl) (λ (e : (t : ℕ) × (w.stage ≡ Drawn h t)). rw e.1 refl) held_so,
-      )
-    where
-      drawn_low : (st : Stage P) → drawn_in st ≤ 1
-      drawn_low Idle = omega arith
-      drawn_low (Taken h) = omega arith
-      drawn_low (Drawn h t) = omega arith
+      grind (arith, r.each id (Works w), back_moves s a threads 2 false r)
 
   -- the part comes home with one more entry
   pub gives_part : (t : ℕ) → w.stage ≡ Drawn h t → x.entries.items ≡ h.found ++ record { ticket = t; thread = record { 0 = w.thread } } ∷ []

@@ -1,19 +1,15 @@
 -- The halt word is loaded or raised; and what comes next in a run of the acts so far.
-use Rattle.std.proofs.Common.{true, ◌≡◌, ◌⊎◌, ℕ, ◌+◌, ◌-◌, ◌<◌, ◌≤◌, max, List, []}
-use Rattle.std.proofs.Common.{length, set, refl, sym, ap, ◌∙◌, inl, inr, ⊎_elim, arith, length-set, Some}
+use Rattle.std.proofs.Common.{true, ◌≡◌, ◌⊎◌, ℕ, ◌+◌, ◌-◌, ◌<◌, ◌≤◌, max, List, [], length, set, refl, sym, ap, ◌∙◌, inl, arith, length-set, Some}
 use Rattle.std.proofs.lemmas.List.{get_or-set_other, get_or-set_same, length-map}
 use Rattle.std.proofs.lemmas.Option.{slice_get_within}
 use Rattle.std.proofs.Math.Nat.{le-max_left, le-max_right, max-eq_left, max-eq_right}
 use mathlib.Core.Option.{Option, none, some}
-use mathlib.Core.Logic.{dite}
-use native.Mathlib.Decide.{dec_le}
 use lib.ListN.{get_elem?}
 use Rattle.atomic_table.specs.Table.{step, keeps, Allows}
 use Rattle.tc_model.specs.declared.board.Act.{Act}
 use Rattle.tc_model.specs.Run.{Rules, start, run}
 use Rattle.tc_model.specs.Sound.{IsSound}
 use Rattle.tc_model.specs.Chains.{AreChainedFrom, threads_of}
-use Rattle.tc_model.proofs.Members.{same_some}
 use Rattle.tc_model.proofs.Merges.{Apart, apart_by, apart_few}
 use Rattle.tc_model.proofs.Longer.{polite_moves}
 use Rattle.tc_model.proofs.Chained.{chained_from}
@@ -24,7 +20,7 @@ use Rattle.part_lock.specs.declared.view.Stage.TheVariants.{Idle}
 use Rattle.part_lock.specs.declared.view.Work.{Work}
 use Rattle.part_lock.specs.declared.view.View.{View}
 use Rattle.part_lock.specs.declared.view.View.TheVariants.{Works}
-use Rattle.part_lock.specs.Lock.{part_no, rank, at_part, of_thread, part_left, local_left, Account, HasOut, starved, total, Ties, Kept, saw, note, Sees, Sets}
+use Rattle.part_lock.specs.Lock.{part_no, rank, at_part, of_thread, part_left, local_left, Account, HasOut, starved, total, Ties, Kept, saw, Sees, Sets}
 use Rattle.part_lock.proofs.Facts.{flag_rises, flag_some, set_at, lies_same, total_at}
 use Rattle.part_lock.proofs.Later.{word, view_stays, sums, turned_ties}
 
@@ -56,11 +52,7 @@ module _ {X P L : Type 0} where
         mine = ((machine, events, named, local, made, saw, (omega arith, (λ e. omega arith), (λ e. let low = limit e in omega arith))), mine.1, rw idle tt);
         bounded = omega arith;
         complete = λ k less low. let g = r.complete k (omega arith) low in omega arith;
-        halting = (
-          omega arith,
-          (λ e. let low = one_is (sym zeroth ∙ e) in omega arith),
-          (λ e. ⊎_elim (λ (old : 0 < total starved views). omega arith) (λ (is : c ≡ 2). let f = flag_some (c - 1) (omega arith) in omega arith) (two_is (sym zeroth ∙ e))),
-        );
+        halting = grind (arith, one_is, flag_some (c - 1), two_is);
       }
 
 module _ {X P L : Type 0} {mach : X → Rules P L} {key : Key X} {words : List ℕ} {homes : List (Option (Stall P))} {views : List (View X P L)} {a : Account P L} {threads : List ℕ}
@@ -84,10 +76,7 @@ module _ {X P L : Type 0} where
       let long : length order ≡ length deeds = length-map deeds (λ (d : Act P L). d.thread) in
       let ready = sound order w.thread (record { moves = polite_moves r (start r) order law.0; few = omega arith }) in
       let there = ready w.local (part_no i) (law.1.locals w.thread ∙ local) (rw same at wish) in
-      let inside = slice_get_within (run r order).parts i there.part there.there in let sizes = (fold_sizes r (start r) order).0 in (
-        omega arith,
-        λ p left. let is : there.part ≡ p = same_some there.part p (sym there.there ∙ (law.1.parts i ∙ left)) in rw same (rw is at there.fit),
-      )
+      grind (arith, slice_get_within (run r order).parts i there.part there.there, fold_sizes r (start r) order, law.1.parts i)
 
   pub sees_halt : (mach : X → Rules P L) (fits : X → P → L → Type 0) (key : Key X) (n id : ℕ) (w : Work X P L)
       → IsSound (mach key.machine) (fits key.machine) → w.stage ≡ Idle → w.noted ≡ true
@@ -109,20 +98,4 @@ module _ {X P L : Type 0} where
       let r = kept.3 in let a : Account P L = kept.1 in let y : ℕ = word s.words 0 in let z : ℕ = max y w.cause in
       let (_, _, _, _, _, _, caused) = (r.each id (Works w) at).0 in let (small, one_is, two_is) = r.halting in
       let above : y ≤ z = le-max_left y w.cause in let above' : w.cause ≤ z = le-max_right y w.cause in
-      let either_is : (z ≡ y) ⊎ (z ≡ w.cause) = dite (dec_le w.cause y) (λ le. inl (max-eq_left le)) (λ gt. inr (max-eq_right (omega arith))) in
-      let few = caused.0 in (
-        Works (note w),
-        keeps,
-        tt,
-        (
-          kept.0,
-          a,
-          kept.2,
-          halt_moves mach key s.words s.homes s.views a kept.2 id z w.cause w r at idle above
-              (⊎_elim (λ (e : z ≡ y). omega arith) (λ (e : z ≡ w.cause). omega arith) either_is)
-              (λ is. ⊎_elim (λ (e : z ≡ y). one_is (sym e ∙ is)) (λ (e : z ≡ w.cause). caused.2 (sym e ∙ is)) either_is)
-              (λ is. ⊎_elim (λ (e : z ≡ y). inl (two_is (sym e ∙ is))) (λ (e : z ≡ w.cause). inr (sym e ∙ is)) either_is)
-              (omega arith) above' caused.2,
-        ),
-        refl,
-      )
+      grind (arith, max-eq_left, max-eq_right, halt_moves mach key s.words s.homes s.views a kept.2 id z w.cause w r)

@@ -6,8 +6,7 @@ use Rattle.atomic_table.specs.Seated.{TableId}
 use Rattle.tc_model.specs.declared.board.Turn.{Turn}
 use Rattle.tc_model.specs.Run.{Rules}
 use Rattle.replay_workers.specs.declared.worker.Worker.{Worker}
-use Rattle.replay_workers.specs.Runs.{Turns as Taken, RanBelow}
-use Rattle.replay_workers.specs.Runs.{IsReady as IsWorkerReady}
+use Rattle.replay_workers.specs.Runs.{Turns as Taken, RanBelow, IsReady as IsWorkerReady}
 use Rattle.part_lock.specs.declared.view.Key.{Key}
 use Rattle.part_lock.specs.declared.view.Lead.{Lead}
 use Rattle.part_lock.specs.declared.view.Work.{Work}

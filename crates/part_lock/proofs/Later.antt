@@ -6,7 +6,7 @@ use mathlib.Core.Option.{Option, some, some-injective}
 use mathlib.Core.Logic.{dite}
 use native.Mathlib.Decide.{ℕ_discrete}
 use lib.ListN.{get_elem?}
-use Rattle.atomic_table.specs.Table.{opening, Valid, stepped, carried_after, State, step, keeps, takes, gives, Allows, Splits, Joins}
+use Rattle.atomic_table.specs.Table.{Valid, stepped, carried_after, State, keeps}
 use Rattle.atomic_table.specs.Table as table
 use Rattle.atomic_table.proofs.Lists.{at_set, set_else, set_again}
 use Rattle.tc_model.specs.declared.board.Act.{Act}
@@ -153,12 +153,7 @@ pub record Written (ws : List ℕ) (i n : ℕ) : Type 0 where
   pub here : i + 2 < length ws → word (set ws (i + 2) n) (i + 2) ≡ n
 
 pub written : (ws : List ℕ) (i n : ℕ) → Written ws i n
-written ws i n = record {
-  zeroth = get_or-set_other ws (i + 2) 0 n 0 (λ f. omega arith);
-  first = get_or-set_other ws (i + 2) 1 n 0 (λ f. omega arith);
-  other = λ k ne. get_or-set_other ws (i + 2) (k + 2) n 0 (λ f. ne (omega arith));
-  here = λ inside. get_or-set_same ws (i + 2) n 0 inside;
-}
+written ws i n = grind (arith, get_or-set_other, get_or-set_same)
 
 module _ {P L : Type 0} where
   pub same_deeds : (a : Account P L) (i : ℕ) → (more : List (Act P L)) × (at_part i a.deeds ≡ at_part i a.deeds ++ more)

@@ -115,12 +115,7 @@ module _ {X P L : Type 0} (mach : X → Rules P L) (key : Key X) (id : ℕ) (m :
       record { halt = omega arith; next = omega arith; grew = same_deeds a; listed = λ q h. h } in
       let here = put_here a.seat w.thread 0 in
       let else_ : (q : ℕ) → q ≢ w.thread → put a.seat w.thread 0 q ≡ a.seat q = λ q no. put_else a.seat w.thread 0 q no in
-      let stays : (i : ℕ) → i ≢ other → Same mach key.machine key.events s.words s.words (length s.homes) a a' threads threads i = λ i far. record {
-        holds = λ k less h e. (h, refl, refl);
-        tickets = λ q o less. o;
-        of_seat = λ q h e. (else_ q (λ is. far (sym e ∙ (ap a.seat is ∙ g.1))) ∙ e, refl);
-        lead = λ e. refl;
-      } in
+      let stays : (i : ℕ) → i ≢ other → Same mach key.machine key.events s.words s.words (length s.homes) a a' threads threads i = grind (arith, else_) in
       let kept_now : Fits mach key.machine key.events s.words (length s.homes) a' threads 0 u = (
         refl,
         machine,

@@ -1,6 +1,5 @@
 -- What the seat is after each step of a call, as a caller has it.
-use Rattle.std.proofs.Common.{true, false, ◌≡◌, ◌≢◌, ℕ, ◌<◌, ◌≤◌, List, []}
-use Rattle.std.proofs.Common.{◌∷◌, get_or, refl, sym, ap, ◌∙◌, subst, arith, vec_len, vec_capacity, Some}
+use Rattle.std.proofs.Common.{true, false, ◌≡◌, ◌≢◌, ℕ, ◌<◌, ◌≤◌, List, [], ◌∷◌, get_or, refl, sym, ap, ◌∙◌, subst, arith, vec_len, vec_capacity, Some}
 use mathlib.Core.Option.{none}
 use Rattle.atomic_table.specs.Table.{step}
 use Rattle.part_lock.specs.declared.view.Key.{Key}
@@ -13,13 +12,11 @@ use Rattle.part_lock.specs.declared.view.View.TheVariants.{Works, Leads}
 use Rattle.part_lock.specs.declared.view.Step.{Step}
 use Rattle.part_lock.specs.declared.view.Step.TheVariants.{Moved, NotYet, Held, Full, Memory, Halted}
 use Rattle.part_lock.specs.declared.view.Judged.TheVariants.{Goes}
-use Rattle.std.specs.Prelude.{Option as Maybe}
 use Rattle.std.specs.List.{slice_get}
 use Rattle.part_lock.specs.declared.view.Lead.{Lead}
 use Rattle.tc_model.specs.declared.machine.PartNo.{PartNo}
 use Rattle.tc_model.specs.Run.{Rules}
-use Rattle.part_lock.specs.Lock.{fresh_work, newcomer, newcomer_with, Mine, part_no, hold, at_view, at_stage, saw, full}
-use Rattle.part_lock.specs.Lock.{left, entered, Finds, Sees, Draws}
+use Rattle.part_lock.specs.Lock.{fresh_work, newcomer, Mine, part_no, hold, at_view, at_stage, saw, full, left, entered, Finds, Sees, Draws}
 use Rattle.part_lock.specs.Turns.{HoldsOnly, noted_after, cause_of, IsReady, Judges, InTurn, InPlace, Acts, Tells, Ready, halt_number}
 
 slot_same : {P : Type 0} (i : ℕ) (x y : Stall P) (c : List (ℕ × Stall P)) → c ≡ (i, x) ∷ [] → c ≡ (i, y) ∷ [] → x ≡ y
@@ -35,17 +32,12 @@ module _ {X P L : Type 0} where
     pub placed : (x' y : Stall P) (me me' : Mine X P L) → InTurn mach key fits thread part l w x me
         → HoldsOnly part x' me → me' ≡ (me.0, (part, y) ∷ []) → y.entries.items ≡ x'.entries.items → y.part ≡ x'.part
         → Judges mach key x'.part l (vec_len y.entries) (vec_capacity y.entries) Goes → InPlace mach key fits thread part l w x y me'
-    placed x' y me me' t has next same same' j =
-        let n = held_now part (Works (at_stage (Taken (hold part x)) w)) x x' y me me' t.0 has next in
-        (n.0, rw n.1 at same, rw n.1 at same', j.2, (refl, t.1, t.2, t.3, t.4, t.5), rw n.1 at j.0, rw n.1 at j.1)
+    placed x' y me me' t has next same same' j = grind (arith)
 
     pub drawn_now : (n found : ℕ) (y : Stall P) (me me' : Mine X P L) → InPlace mach key fits thread part l w x y me → Draws (step n 1 1 0 none) me found me'
         → (found < key.events → me' ≡ (Works (at_stage (Drawn (hold part x) found) w), (part, y) ∷ []))
         × (key.events ≤ found → me' ≡ (Works (full (at_stage (Taken (hold part x)) w)), (part, y) ∷ []))
-    drawn_now n found y me me' p d =
-        let (is, _, _, _, turn, _, _) = p in let (_, ready, _, _, _, _) = turn in let (_, _, _, _, _, _, limit) = ready in
-        let d' = subst (λ (z : Mine X P L). Draws (step n 1 1 0 none) z found me') is d in
-        ((λ low. d'.0 (omega arith)), (λ high. d'.1 (omega arith)))
+    drawn_now n found y me me' p d = grind (arith)
 
     -- after the draw of a ticket that is used, the part is held, and its act goes
     pub goes_on : (n found : ℕ) (y : Stall P) (me me' : Mine X P L) → InPlace mach key fits thread part l w x y me → Draws (step n 1 1 0 none) me found me' → found < key.events
@@ -83,41 +75,22 @@ module _ {X P L : Type 0} where
     ready_again thread me me' Memory r a = let (h, leaves, _, _) = a in (left h 2 true w, (leaves.2, refl, refl, r.3, r.4 ∙ sym leaves.1, r.5, r.6))
     ready_again thread me me' (Halted c) r a = (saw (halt_number c) w, (a.1, r.1, refl, r.3, r.4 ∙ sym a.0, r.5, r.6))
 
-  -- a seat that saw no cause in the halt word has none
-  clean : (w : Work X P L) (found : ℕ) → found ≡ 0 → w.noted ≡ true → w.cause ≤ found → (saw found w ≡ w) × (w.cause ≡ 0)
-  clean w found zero_is noted low =
-      let none_is : w.cause ≡ 0 = omega arith in let same : found ≡ w.cause = omega arith in
-      ((λ j. record { machine = w.machine; thread = w.thread; events = w.events; cause = same j; noted = sym noted j; local = w.local; made = w.made; visits = w.visits; stage = w.stage }), none_is)
-
   -- after the load of a halt word that is 0
   module _ (mach : X → Rules P L) (n thread found : ℕ) (l : L) (key : Key X) (w : Work X P L) (me me' : Mine X P L)
       (zero_is : found ≡ 0) (r : IsReady key thread l w me) (see : Sees mach (step n 0 0 0 none) me found me') where
     pub seen_now : (me' ≡ (Works w, [])) × (w.cause ≡ 0)
-    seen_now =
-        let see' = subst (λ (z : Mine X P L). Sees mach (step n 0 0 0 none) z found me') r.0 see in let c = clean w found zero_is r.2 (see'.2.0 r.2) in
-        (see'.0 ∙ ap (λ (z : Work X P L). (Works z, [])) c.0, c.1)
+    seen_now = grind (arith)
 
     pub in_turn : (fits : X → P → L → Type 0) (part : ℕ) (x : Stall P) (me'' : Mine X P L)
         → me'' ≡ (at_view (at_stage (Taken (hold part x))) me'.0, (part, x) ∷ []) → Finds mach fits part x me'.0
         → (mach key.machine).want l ≡ Some (part_no part) → InTurn mach key fits thread part l w x me''
-    in_turn fits part x me'' next finds wish =
-        let c = seen_now in let (_, idle, noted, named, local, machine, events) = r in
-        let f = subst (λ (z : Mine X P L). Finds mach fits part x z.0) c.0 finds in (
-          next ∙ ap (λ (z : Mine X P L). (at_view (at_stage (Taken (hold part x))) z.0, (part, x) ∷ [])) c.0,
-          (refl, idle, noted, named, local, machine, events),
-          c.1,
-          wish,
-          rw (← machine, ← local) (f.0 (rw (machine, local) wish)),
-          f.1,
-        )
+    in_turn fits part x me'' next finds wish = grind (arith, seen_now)
 
   -- the seat of a thread that had none is ready, with the local of the machine's start
   pub newcomer_is : (mach : X → Rules P L) (key : Key X) (t : ℕ) (m : Lead X P L) (l : L) (v : View X P L) (me : Mine X P L)
       → v ≡ Leads m → m.machine ≡ key.machine → slice_get (mach key.machine).locals t ≡ Some l
       → me ≡ (newcomer mach t v, []) → me ≡ (Works (fresh_work t l m), [])
-  newcomer_is mach key t m l v me is machine begins next =
-      let at : slice_get (mach m.machine).locals t ≡ Some l = rw machine begins in
-      next ∙ (ap (λ (z : View X P L). (newcomer mach t z, [])) is ∙ ap (λ (o : Maybe L). (newcomer_with t m o, [])) at)
+  newcomer_is mach key t m l v me is machine begins next = grind (arith)
 
   -- the part that a local wants is there, as a load of the halt word tells
   pub part_there : (mach : X → Rules P L) (n thread found : ℕ) (part : PartNo) (l : L) (key : Key X) (w : Work X P L) (me me' : Mine X P L) → IsReady key thread l w me

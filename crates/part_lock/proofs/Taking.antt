@@ -1,6 +1,5 @@
 -- A seat takes the turn of a part.
-use Rattle.std.proofs.Common.{◌≡◌, ◌≢◌, ℕ, ◌+◌, ◌-◌, ◌<◌, ◌≤◌, eqb, List, [], ◌∷◌, length-append}
-use Rattle.std.proofs.Common.{◌++◌, length, set, refl, sym, ap, ◌∙◌, arith, length-set, Some}
+use Rattle.std.proofs.Common.{◌≡◌, ◌≢◌, ℕ, ◌+◌, ◌-◌, ◌<◌, ◌≤◌, eqb, List, [], ◌∷◌, length-append, length, set, refl, sym, ap, ◌∙◌, arith, length-set, Some}
 use Rattle.std.proofs.lemmas.List.{length-map}
 use mathlib.Core.Option.{none}
 use mathlib.Core.Logic.{dite}
@@ -19,7 +18,7 @@ use Rattle.part_lock.specs.declared.view.Visit.{Visit}
 use Rattle.part_lock.specs.declared.view.Stage.TheVariants.{Idle, Taken}
 use Rattle.part_lock.specs.declared.view.Work.{Work}
 use Rattle.part_lock.specs.declared.view.View.TheVariants.{Works}
-use Rattle.part_lock.specs.Lock.{hold, at_part, of_thread, part_left, local_left, Account, entry_of, entries_at, Saw, Mine, HasOut, drawn_in, Kept, at_stage, Finds, Takes}
+use Rattle.part_lock.specs.Lock.{hold, at_part, of_thread, part_left, local_left, Account, entries_at, Saw, Mine, HasOut, drawn_in, Kept, at_stage, Finds, Takes}
 use Rattle.part_lock.proofs.Facts.{put, put_here, put_else, set_at}
 use Rattle.part_lock.proofs.Later.{word, written, Goes, view_stays, sums, turned_ties, stands_still}
 use Rattle.part_lock.proofs.Halting.{few_deeds, lawful_next}
@@ -27,10 +26,7 @@ use Rattle.part_lock.proofs.Halting.{few_deeds, lawful_next}
 module _ {X P L : Type 0} (mach : X → Rules P L) (fits : X → P → L → Type 0) (key : Key X) (sound : IsSound (mach key.machine) (fits key.machine)) where
   fresh : (deeds : List (Act P L)) (v : Visit P) (i : ℕ) (x : Stall P) → Saw mach key.machine key.events deeds v
       → v.slot ≡ i → x.entries.items ≡ entries_at i deeds → v.found + v.entered ≤ length x.entries.items
-  fresh deeds v i x seen same is =
-      let (before, after, parts, found, _, entered) = seen in
-      let long : length x.entries.items ≡ length (at_part v.slot deeds) = ap length (is ∙ rw same refl) ∙ length-map (at_part v.slot deeds) entry_of in
-      let n = length-append before after in let both : length (at_part v.slot deeds) ≡ length (before ++ after) = ap length parts in omega arith
+  fresh deeds v i x seen same is = grind (arith, length-map, length-append)
 
   finds_part : (a : Account P L) (w : Work X P L) (i j : ℕ) (x : Stall P) → i ≡ j
       → x.entries.items ≡ entries_at i a.deeds → part_left (mach key.machine) i (at_part i a.deeds) ≡ Some x.part

@@ -1,9 +1,9 @@
-use Rattle.std.proofs.Common.{length, map, reverse, refl, sym, ap, ◌∙◌, subst, arith}
-use Rattle.std.proofs.lemmas.List.{length-reverse, reverse-reverse, append-nil}
+use Rattle.std.proofs.Common.{length, refl, ap, ◌∙◌, arith}
+use Rattle.std.proofs.lemmas.List.{length-reverse, reverse-reverse, append-nil, nil_from_length}
 use Rattle.std.proofs.lemmas.List.Elements.{All-pop}
 use Rattle.part_lock.specs.Lock.{one_joined}
-use Rattle.part_lock.specs.Joins.{JoinsAll, Fit}
-use Rattle.part_lock.proofs.Carried.{turned_end, all_turned, next_is, none_left, all_last}
+use Rattle.part_lock.specs.Joins.{Fit}
+use Rattle.part_lock.proofs.Carried.{turned_end, all_turned, next_is, all_last}
 use Rattle.part_lock.proofs.Hands.{joins_none, joins_more}
 use Rattle.part_lock.proofs.joined.join_fitting.Goals as goal
 
@@ -38,17 +38,7 @@ loop-worker-preserved g c =
     }
 
 pub returns-clause-main : goal.returns-clause-main
-returns-clause-main g c =
-    let key = c.args.parts.now.key in
-    let cases = rw c.in_default.is at c.pop.ensures.cases in
-    let none = none_left c.loop-worker.workers.items (sym c.loop-worker.workers.ok.0 ∙ cases.0) in
-    let start = ap reverse c.turned-workers.ensures ∙ reverse-reverse c.args.workers.items in
-    let last = subst (λ l. JoinsAll key c.loop-worker.main.me (map (λ w. w.hand) (reverse l)) c.loop-worker.main.me) (sym none) (joins_none key c.loop-worker.main.me) in
-    subst (λ l. JoinsAll key c.args.main.now.me (map (λ w. w.hand) l) c.loop-worker.main.me) start (c.loop-worker.invariant.joins c.loop-worker.main.me last)
+returns-clause-main g c = grind (arith, nil_from_length, reverse-reverse, joins_none)
 
 pub returns-clause-locals : goal.returns-clause-locals
-returns-clause-locals g c =
-    let cases = rw c.in_default.is at c.pop.ensures.cases in
-    let none = none_left c.loop-worker.workers.items (sym c.loop-worker.workers.ok.0 ∙ cases.0) in
-    let start = ap reverse c.turned-workers.ensures ∙ reverse-reverse c.args.workers.items in
-    rw (none, append-nil) at c.loop-worker.invariant.so_far ∙ ap (map (λ w. w.hand.local)) start
+returns-clause-locals g c = grind (arith, nil_from_length, reverse-reverse, append-nil)

@@ -1,31 +1,18 @@
-use Rattle.std.proofs.Common.{◌≡◌, length, map, reverse, refl, sym, ap, ◌∙◌, arith, add-one}
-use Rattle.std.proofs.lemmas.List.{length-reverse, reverse-reverse, append-nil, length-map}
+use Rattle.std.proofs.Common.{map, reverse, sym, ap, ◌∙◌, arith, add-one}
+use Rattle.std.proofs.lemmas.List.{length-reverse, reverse-reverse, append-nil, length-map, nil_from_length}
 use Rattle.std.proofs.lemmas.List.Elements.{All-nil, All-push}
 use Rattle.replay_workers.specs.Runs.{IsReady as IsWorkerReady}
 use Rattle.part_lock.specs.Joins.{Fit, lead_of, numbers}
 use Rattle.part_lock.specs.Turns.{IsFresh}
-use Rattle.part_lock.proofs.Carried.{turned_end, move_step, none_left}
+use Rattle.part_lock.proofs.Carried.{turned_end, move_step}
 use Rattle.part_lock.proofs.Numbers.{number_new, numbers_more, at_seam}
 use Rattle.part_lock.proofs.seated.seat_each.Goals as goal
 
 pub loop-local-init : goal.loop-local-init
-loop-local-init g c =
-    let long = ap length c.turned-locals.ensures ∙ length-reverse c.args.locals.items in record {
-      room = omega (arith, c.requires.room, c.args.locals.ok.0, c.turned-locals.result.ok.0, long);
-      counted = c.args.workers.ok.0 ∙ ap length c.requires.bare;
-      few = omega (arith, c.turned-locals.result.ok.0);
-      table = refl;
-      main = c.requires.main;
-      ready = rw c.requires.bare (All-nil _);
-      fresh = rw c.requires.bare (All-nil _);
-      so_far = rw (c.requires.bare, c.turned-locals.ensures, reverse-reverse) c.requires.start;
-      threads = ap (map (λ w. w.hand.thread.0)) c.requires.bare;
-    }
+loop-local-init g c = grind (arith, length-reverse, All-nil, reverse-reverse)
 
 pub overflow_cast-thread : goal.overflow_cast-thread
-overflow_cast-thread g c =
-    let long = ap length c.turned-locals.ensures ∙ length-reverse c.args.locals.items in
-    omega (arith, c.requires.few, c.args.locals.ok.0, c.loop-local.invariant.few, c.in-Some.ensures.len, long)
+overflow_cast-thread g c = grind (arith, length-reverse)
 
 pub worker_for-requires-clause-seat : goal.worker_for-requires-clause-seat
 worker_for-requires-clause-seat g c κs within = c.loop-local.invariant.table ∙ c.requires.seat
@@ -62,22 +49,13 @@ pub returns-clause-seat : goal.returns-clause-seat
 returns-clause-seat g c = c.loop-local.invariant.table
 
 pub returns-clause-main : goal.returns-clause-main
-returns-clause-main g c =
-    let cases = rw c.in_default.is at c.pop.ensures.cases in let long = ap length c.turned-locals.ensures ∙ length-reverse c.args.locals.items in
-    let count : c.loop-local.thread ≡ length c.args.locals.items = omega (arith, c.loop-local.invariant.few, cases.0, long) in
-    rw count at c.loop-local.invariant.main
+returns-clause-main g c = grind (arith, length-reverse)
 
 pub returns-clause-ready : goal.returns-clause-ready
 returns-clause-ready g c = c.loop-local.invariant.ready
 
 pub returns-clause-locals : goal.returns-clause-locals
-returns-clause-locals g c =
-    let cases = rw c.in_default.is at c.pop.ensures.cases in
-    let none = none_left c.loop-local.locals.items (sym c.loop-local.locals.ok.0 ∙ cases.0) in
-    rw (none, append-nil) at c.loop-local.invariant.so_far ∙ sym c.requires.start
+returns-clause-locals g c = grind (arith, nil_from_length, append-nil)
 
 pub returns-clause-threads : goal.returns-clause-threads
-returns-clause-threads g c =
-    let cases = rw c.in_default.is at c.pop.ensures.cases in let long = ap length c.turned-locals.ensures ∙ length-reverse c.args.locals.items in
-    let count : c.loop-local.thread ≡ length c.args.locals.items = omega (arith, c.loop-local.invariant.few, cases.0, long) in
-    c.loop-local.invariant.threads ∙ ap numbers count
+returns-clause-threads g c = grind (arith, length-reverse)

@@ -4,11 +4,7 @@ use Rattle.part_lock.proofs.Asked.{takes_as, took}
 use Rattle.part_lock.proofs.parts.Parts.try_take.Goals as goal
 
 pub compare_exchange-requires : goal.compare_exchange-requires
-compare_exchange-requires g c = (
-  c.requires.seat,
-  omega (arith, c.args.self.now.sized),
-  takes_as g.M.Machine.rules g.M.Machine.fits _ _ _ c.args.self.now.table.shared.key _ _ (g.met.M.Machine.sound c.args.self.now.table.shared.key.machine) c.requires.free c.requires.part,
-)
+compare_exchange-requires g c = grind (arith, takes_as)
 
 pub returns-clause-took : goal.returns-clause-took
 returns-clause-took g c = λ h. let same = eqb-true _ _ h in let bare = ap (λ m. m.1) c.requires.free.1 in
