@@ -1,21 +1,16 @@
 -- Rows of regions in their order: which one has a hugepage, and what stays where one changes, comes or leaves.
 use Rattle.std.proofs.Common.{◌≡◌, ℕ, zero, suc, ◌+◌, ◌-◌, ◌*◌, ◌<◌, ◌≤◌, Bool, true, false, cond, ◌==◌, not, List, [], ◌∷◌, length, get_or, set, insert, remove, map, filter, Option, Some, None, All, Contains, refl, sym, ap, ◌∙◌, inl, inr, arith}
-use Rattle.huge_region.proofs.Common.{get_or_default, find, suc-mul, cases_Bool, cases_lt, lt-ltb, le-ltb, leb-true, ltb-true, eq-eqb, ne_eqb, and_parts, nat_tests, none-some}
+use Rattle.huge_region.proofs.Common.{get_or_default, find, suc-mul, cases_Bool, cases_lt, lt-ltb, le-ltb, eq-eqb, ne_eqb, nat_tests, none-some}
 use Rattle.huge_region.proofs.Common.{same_Some, All-head, All-tail, spans, RegionRow, AreApartFrom}
 use Rattle.tc_units.specs.Sorted.{with_item, without_key}
+use Rattle.heap_rules.proofs.Fits.{spans_from}
 
 -- a row that has a hugepage, or hasn't
-pub spans_at : (w h first : ℕ) → first ≤ h → h < first + w → spans w h first ≡ true
-spans_at w h first low high = grind (arith, nat_tests)
-
 pub spans_below : (w h first : ℕ) → h < first → spans w h first ≡ false
 spans_below w h first low = grind (arith, nat_tests)
 
 pub spans_behind : (w h first : ℕ) → first + w ≤ h → spans w h first ≡ false
 spans_behind w h first high = grind (arith, nat_tests)
-
-pub spans_parts : (w h first : ℕ) → spans w h first ≡ true → (first ≤ h) × (h < first + w)
-spans_parts w h first e = let parts = and_parts _ _ e in (leb-true first h parts.0, ltb-true h (first + w) parts.1)
 
 -- what a search finds, and what it passes by
 pub found_parts : {X : Type 0} (p : X → Bool) (xs : List X) (x : X) → find p xs ≡ Some x → (p x ≡ true) × Contains xs x
@@ -48,7 +43,7 @@ module _ (w : ℕ) where
   -- the row at a place has its hugepages, and none has one between two rows
   pub found_there : (from h : ℕ) (rows : List RegionRow) (i : ℕ) (d : RegionRow) → AreApartFrom w from rows → i < length rows → (get_or rows i d).first ≤ h → h < (get_or rows i d).first + w → with_huge h rows ≡ Some (get_or rows i d)
   found_there from h [] i d apart l low high = absurd (omega arith)
-  found_there from h (r ∷ rows) zero d apart l low high = rw (spans_at w h r.first low high) refl
+  found_there from h (r ∷ rows) zero d apart l low high = rw (spans_from w h r.first low high) refl
   found_there from h (r ∷ rows) (suc i) d apart l low high = rw (spans_behind w h r.first (omega (arith, begins (r.first + w) rows i d apart.1 (omega arith)))) (found_there (r.first + w) h rows i d apart.1 (omega arith) low high)
 
   found_nowhere : (from h : ℕ) (rows : List RegionRow) → AreApartFrom w from rows → ((i : ℕ) (d : RegionRow) → i < length rows → (get_or rows i d).first ≤ h → (get_or rows i d).first + w ≤ h) → with_huge h rows ≡ None
@@ -108,7 +103,7 @@ module _ (w : ℕ) where
   pub apart_with : (from : ℕ) (rows : List RegionRow) (r : RegionRow) → AreApartFrom w from rows → 0 < w → from ≤ r.first → ((h : ℕ) → r.first ≤ h → h < r.first + w → with_huge h rows ≡ None) → AreApartFrom w from (with_item (λ (x : RegionRow). x.first) r rows)
   apart_with from [] r apart some low free = (low, tt)
   apart_with from (x ∷ rows) r apart some low free =
-      let passed : (h : ℕ) → r.first ≤ h → h < r.first + w → x.first ≤ h → x.first + w ≤ h = λ h a b l. elim (cases_lt h (x.first + w)) [ inl in_it ↦ absurd (none-some x (sym (free h a b) ∙ rw (spans_at w h x.first l in_it) refl)) | inr past ↦ past ] in
+      let passed : (h : ℕ) → r.first ≤ h → h < r.first + w → x.first ≤ h → x.first + w ≤ h = λ h a b l. elim (cases_lt h (x.first + w)) [ inl in_it ↦ absurd (none-some x (sym (free h a b) ∙ rw (spans_from w h x.first l in_it) refl)) | inr past ↦ past ] in
       elim (cases_lt r.first x.first) [
         | inl before ↦ rw (lt-ltb r.first x.first before) (low, (elim (cases_lt x.first (r.first + w)) [ inl over ↦ absurd (omega (arith, passed x.first (omega arith) over (omega arith))) | inr apart_from ↦ apart_from ], apart.1))
         | inr behind ↦

@@ -1,7 +1,6 @@
 -- A run that came may leave.
 use Rattle.huge_region.proofs.Common.{nat_tests, find, eq-eqb, huge_pages, spans, RegionRow, Regions, with_changed, joined, start_in, AreFreeIn, AreUsedIn}
-use Rattle.std.proofs.Common.{arith}
-use Rattle.std.proofs.Common.{◌≡◌, ℕ, ◌/◌, ◌<◌, cond, ◌==◌, List, [], ◌∷◌, map, Some, refl, ap, ◌∙◌, Bool, option_map}
+use Rattle.std.proofs.Common.{arith, ◌≡◌, ℕ, ◌/◌, ◌<◌, cond, ◌==◌, List, [], ◌∷◌, map, Some, refl, ap, ◌∙◌, Bool, option_map}
 use Rattle.range_bits.proofs.Stretches.{used_then}
 
 -- a region that changed is found by its hugepages as before

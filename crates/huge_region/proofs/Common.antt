@@ -17,7 +17,7 @@ pub use Rattle.std.proofs.Math.Nat.{le-div_iff_mul-le, suc-mul}
 pub use Rattle.std.proofs.lemmas.Bool.{and_parts, cases_Bool, cases_lt, eq-eqb, eqb-true, le-leb, le-ltb, leb-false, leb-true, lt-leb, lt-ltb, ltb-true, ne_eqb}
 pub use Rattle.std.proofs.lemmas.Bool.{not-true, not_from_false}
 pub use Rattle.std.proofs.lemmas.Bool.Decides.{nat_tests}
-pub use Rattle.std.proofs.lemmas.List.{get_or_default, length-append, length-replicate, length-set, length_push}
+pub use Rattle.std.proofs.lemmas.List.{get_or_default, length-replicate, length-set, length_push}
 pub use Rattle.std.proofs.lemmas.List.Elements.{All-contains, All-contains_itself, All-filter, All-head, All-pop, All-push, All-set, All-tail, Contains-get_or}
 pub use Rattle.std.proofs.lemmas.List.Elements.{filter_passes}
 pub use Rattle.std.proofs.lemmas.Option.{none-some, same_Some}

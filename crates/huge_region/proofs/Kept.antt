@@ -9,7 +9,8 @@ use Rattle.std.proofs.lemmas.List.Sums.{sum_by-cons, sum_by-set, sum_by-insert, 
 use Rattle.tc_units.specs.Sorted.{without_key}
 use Rattle.tc_units.proofs.SortedFacts.{All-with_item, length-with_item}
 use Rattle.sorted_list.specs.Contents.{Contents}
-use Rattle.huge_region.proofs.Apart.{begins, found_parts, spans_parts, found_there, at_place, apart_set, inserted_is, apart_with, removed_is, apart_filter, they_fit}
+use Rattle.huge_region.proofs.Apart.{begins, found_parts, found_there, at_place, apart_set, inserted_is, apart_with, removed_is, apart_filter, they_fit}
+use Rattle.heap_rules.proofs.Fits.{spans_parts}
 
 abbrev pub with_rows : Regions → List RegionRow → Regions
 with_rows all rows = record { huge = all.huge; width = all.width; rows = rows }

@@ -1,4 +1,4 @@
-use Rattle.std.proofs.Common.{◌≡◌, ℕ, ◌<◌, ◌≤◌, Some, List, length, get_or, sym, ap, subst, ◌∙◌, inl, inr, arith}
+use Rattle.std.proofs.Common.{ℕ, ◌<◌, ◌≤◌, Some, List, length, get_or, sym, ap, subst, ◌∙◌, inl, inr, arith}
 use Rattle.huge_region.proofs.Common.{cases_lt, RegionRow, regions_of, Regions, region_with}
 use Rattle.huge_region.proofs.Apart.{found_there, none_behind, read_first}
 use Rattle.huge_region.proofs.regions.HugeRegions.last_upto.Goals as goal
