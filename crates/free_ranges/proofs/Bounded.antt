@@ -14,10 +14,7 @@ use Rattle.free_ranges.specs.Bounds.{stops_range, Bounds, Tells, IsPut, IsBetwee
 free_up : (row : List Bool) (a k p : ℕ) → p ≡ a + k → get_or row a true ≡ false → ((q : ℕ) → a < q → q ≤ p → stops_range row q ≡ false) →
     get_or row p true ≡ false
 free_up row a zero p at base none = let e : p ≡ a = omega arith in ap (λ (i : ℕ). get_or row i true) e ∙ base
-free_up row a (suc k) p at base none =
-    let before : get_or row (p - 1) true ≡ false = free_up row a k (p - 1) (omega arith) base (λ q low high. none q low (omega arith)) in
-    let stop = none p (omega arith) (omega arith) in
-    grind (arith, nat_tests)
+free_up row a (suc k) p at base none = grind (arith, free_up row a k (p - 1))
 
 free_inside : (row : List Bool) (p : ℕ) → get_or row p true ≡ false → p < length row
 free_inside row p free = elim (cases_lt p (length row)) [ inl inside ↦ inside | inr past ↦ absurd (false≢true (sym free ∙ get_or_past row p true past)) ]
@@ -51,9 +48,7 @@ module _ (row : List Bool) (bounds : Bounds) (tells : Tells row bounds) where
       }
 
   pub told_none : (place : ℕ) → ((k : ℕ) → 0 ≤ k → k ≤ place → get_or bounds.begins k false ≡ false) → (p : ℕ) → p ≤ place → get_or row p true ≡ true
-  told_none place none p upto =
-      none_free row 0 p p (omega arith) (used_here row 0 (λ pos. absurd (omega arith)) (sym (tells.begun 0) ∙ none 0 (omega arith) (omega arith)))
-      (λ q low high. sym (tells.begun q) ∙ none q (omega arith) (omega arith))
+  told_none place none p upto = grind (arith, none_free row 0 p p, used_here row 0)
 
   -- a range that begins stops
   pub told_stop : (place start : ℕ) → IsLastAt (λ k. get_or bounds.begins k false) 0 place start →
@@ -82,26 +77,10 @@ inner_stops row p b e f = grind (arith, nat_tests)
 
 -- only where the change begins and ends may a range begin or stop that didn't
 begins_same : (row new : List Bool) (start n p : ℕ) → IsPut row new start n → p ≢ start → p ≢ start + n → begins_range new p ≡ begins_range row p
-begins_same row new start n p put a b = elim (cases_lt p start) [
-  | inl early ↦ begins_alike row new p (put.early p early) (put.early (p - 1) (omega arith))
-  | inr from ↦ elim (cases_lt p (start + n)) [
-    | inl within ↦
-        inner_begins new p put.is (omega (arith, a)) (put.after p from within) (put.after (p - 1) (omega (arith, a)) (omega arith))
-        ∙ sym (inner_begins row p put.was (omega (arith, a)) (put.before p from within) (put.before (p - 1) (omega (arith, a)) (omega arith)))
-    | inr late ↦ begins_alike row new p (put.late p late) (put.late (p - 1) (omega (arith, b)))
-  ]
-]
+begins_same row new start n p put a b = grind (arith, nat_tests, begins_alike, inner_begins)
 
 stops_same : (row new : List Bool) (start n p : ℕ) → IsPut row new start n → p ≢ start → p ≢ start + n → stops_range new p ≡ stops_range row p
-stops_same row new start n p put a b = elim (cases_lt p start) [
-  | inl early ↦ stops_alike row new p (put.early p early) (put.early (p - 1) (omega arith))
-  | inr from ↦ elim (cases_lt p (start + n)) [
-    | inl within ↦
-        inner_stops new p put.is (put.after p from within) (put.after (p - 1) (omega (arith, a)) (omega arith))
-        ∙ sym (inner_stops row p put.was (put.before p from within) (put.before (p - 1) (omega (arith, a)) (omega arith)))
-    | inr late ↦ stops_alike row new p (put.late p late) (put.late (p - 1) (omega (arith, b)))
-  ]
-]
+stops_same row new start n p put a b = grind (arith, nat_tests, stops_alike, inner_stops)
 
 twice : (xs : List Bool) (start end p : ℕ) (f : ℕ → Bool) → start < length xs → end < length xs → (p ≢ start → p ≢ end → get_or xs p false ≡ f p) →
     get_or (set (set xs start (f start)) end (f end)) p false ≡ f p
@@ -186,14 +165,7 @@ module _ (row new : List Bool) (start n : ℕ) (used : Bool) (inside : start + n
 
   placed_between : (before behind : Bool) → (0 < start → get_or row (start - 1) true ≡ before) → (start ≡ 0 → before ≡ true) →
       get_or row (start + n) true ≡ behind → IsBetween new start n used before behind
-  placed_between before behind left none right = record {
-    some = some;
-    first = at start ∙ place_in row start n used inside start true (omega arith) (omega arith);
-    last = at (start + n - 1) ∙ place_in row start n used inside (start + n - 1) true (omega arith) (omega arith);
-    before = λ l. at (start - 1) ∙ place_before row start n used inside (start - 1) true (omega arith) ∙ left l;
-    none = none;
-    behind = at (start + n) ∙ place_behind row start n used inside (start + n) true (omega arith) ∙ right;
-  }
+  placed_between before behind left none right = grind (arith, at, place_in, place_before, place_behind)
 
 -- a part of a free range, and what is freed beside free places
 module _ (row new : List Bool) (start n : ℕ) (inside : start + n ≤ length row) (some : 0 < n) where

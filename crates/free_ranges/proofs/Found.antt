@@ -83,11 +83,7 @@ module _ (row : List Bool) (keys : List FreeRange) (index : IsIndexOf (range_at 
   -- no range is longer than the last key's
   pub longest_found : (key : FreeRange) → IsLast comes_before keys key → longest row ≡ key.len
   longest_found key is =
-      let at = ranged key is.held in
-      longest_is row (length row) key.len (omega arith) (record {
-        bound = λ y inside begins. not_first key.len (free_from row y) _ (each (λ r. comes_before key r ≡ false) is.last y inside begins);
-        there = λ some. (key.start, at.0, omega (arith, at.2));
-      })
+      grind (arith, ranged key is.held, longest_is row (length row) key.len, not_first key.len, each (λ r. comes_before key r ≡ false) is.last)
 
   pub longest_nowhere : keys ≡ [] → longest row ≡ 0
   longest_nowhere none =

@@ -1,9 +1,8 @@
 -- What a mark or an unmark makes of the listed ranges.
-use Rattle.std.proofs.Common.{◌≡◌, ℕ, ◌+◌, ◌-◌, ◌<◌, ◌≤◌, ◌==◌, ◌&&◌, Bool, true, false, cond, List, [], ◌∷◌, drop, length, get_or, count_by, min, max, Contains, IsPermutation, replicate, refl, sym, ap, subst, ◌∙◌, inl, inr, arith, eq-eqb, eqb-true}
+use Rattle.std.proofs.Common.{◌≡◌, ℕ, ◌+◌, ◌-◌, ◌<◌, ◌≤◌, ◌==◌, ◌&&◌, Bool, true, false, cond, List, [], ◌∷◌, drop, length, get_or, count_by, min, max, Contains, IsPermutation, replicate, refl, sym, ap, ◌∙◌, arith, eq-eqb, eqb-true}
 use Rattle.free_ranges.proofs.Common.{nat_tests, cases_lt, and_from, and_parts, get_or-drop, get_or-replicate, length-replicate, sum_by-cons, prefix_len_passes}
-use Rattle.free_ranges.proofs.Common.{free_from, used_from, with_places, free_inside, used_inside, length-with_places, place_before, place_in}
-use Rattle.free_ranges.proofs.Common.{place_behind, placed_again, placed_already, free_at, free_run, begins, found_some, count_held}
-use Rattle.free_ranges.proofs.Common.{FreeRange, Listing, IsListed, range_at, starts}
+use Rattle.free_ranges.proofs.Common.{free_from, used_from, with_places, free_inside, used_inside, length-with_places, place_before, place_in, place_behind}
+use Rattle.free_ranges.proofs.Common.{placed_again, placed_already, free_at, free_run, found_some, count_held, FreeRange, Listing, IsListed, range_at, starts}
 use Rattle.free_ranges.proofs.Common.{IsRange, IsLastRange}
 use Rattle.std.proofs.lemmas.List.Sorted.{sum_by-IsPermutation}
 use Rattle.range_bits.specs.Fills.{IsEnd}
@@ -85,9 +84,7 @@ module _ (row : List Bool) (begin start n end : ℕ) (some : 1 ≤ n) (used : n 
 -- a maximal free range is listed
 pub range_listed : (row : List Bool) (range : FreeRange) (l : Listing) → IsRange row range → IsListed row l → l.complete ≡ true → Contains l.ranges range
 range_listed row range l is index all =
-    let len : free_from row range.start ≡ range.len = free_run row range.len range.start is.within is.free is.end in
-    subst (λ (m : ℕ). Contains l.ranges (record { len = m; start = range.start })) len
-    (listed row l.ranges (index all) range.start (omega (arith, is.some, is.within)) (begins row range.start (is.free range.start (omega arith) (omega (arith, is.some))) is.before))
+    grind (arith, free_run row range.len range.start is.within is.free is.end, listed row l.ranges (index all) range.start, index all, is.free range.start)
 
 -- and it is listed still where another one went
 pub still_listed : (l l1 : Listing) (gone left : FreeRange) → left.start < gone.start
@@ -102,12 +99,7 @@ still_listed l l1 gone left order went held =
 pub free_within : (row : List Bool) (range : FreeRange) (start n : ℕ) → 1 ≤ n → n ≤ free_from row start → IsLastRange row start range → start + n ≤ range.start + range.len
 free_within row range start n some free last =
     let e : ℕ = range.start + range.len in
-    let fits = free_inside row start n some free in
-    elim (cases_lt e (start + n)) [
-      | inr within ↦ within
-      | inl short ↦
-          (absurd (let c : true ≡ false = sym (grind (arith, nat_tests, cases_lt)) ∙ free_at row start n (e - start) true free (omega arith) in cc))
-    ]
+    grind (arith, nat_tests, free_inside row start n some free, free_at row start n (e - start) true free)
 
 -- a list that is complete with a range more was so before
 pub was_complete : (old ok new : Bool) → new ≡ (old && ok) → new ≡ true → old ≡ true

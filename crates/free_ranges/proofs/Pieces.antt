@@ -1,8 +1,7 @@
 -- The ranges that begin in a part of a row.
 use Rattle.free_ranges.proofs.Common.{nat_tests, range_with_len, cases_lt, lt-ltb, le-ltb, sum_by-cons, free_from, begins_range, free_run, used_begins}
 use Rattle.free_ranges.proofs.Common.{behind_free, FreeRange, range_at, starts}
-use Rattle.std.proofs.Common.{◌≡◌, ℕ, suc, ◌+◌, ◌-◌, ◌<◌, ◌≤◌, ◌&&◌, Bool, true, false, cond, List, length, get_or, count_by, sym, ap, ◌∙◌, inl, inr}
-use Rattle.std.proofs.Common.{arith}
+use Rattle.std.proofs.Common.{◌≡◌, ℕ, suc, ◌+◌, ◌-◌, ◌<◌, ◌≤◌, ◌&&◌, Bool, true, false, cond, List, length, get_or, count_by, ap, ◌∙◌, inl, inr, arith}
 use Rattle.free_ranges.specs.Ranges.{range_count}
 use Rattle.free_ranges.proofs.Lists.{count_filter, count_no_one}
 
@@ -35,9 +34,7 @@ pub free_part : (row : List Bool) (test : FreeRange → Bool) (from to : ℕ) �
     → (0 < from → get_or row (from - 1) true ≡ true) → (to < length row → get_or row to true ≡ true) → count_in row test from to ≡ counts test from (to - from)
 free_part row test from to order inside free before behind =
     elim (cases_lt from to) [
-      | inr none ↦
-          (let zero_len : to - from ≡ 0 = omega arith in
-          ap (λ (n : ℕ). count_by (tested row test) (range_with_len from n)) zero_len ∙ sym (counts_none test from (to - from) zero_len))
+      | inr none ↦ grind (arith, counts_none test from (to - from))
       | inl some ↦
           (let rest : ℕ = to - from - 1 in
           let whole : to - from ≡ suc rest = omega arith in

@@ -2,7 +2,6 @@ use Rattle.std.proofs.Common.{◌≡◌, ◌^◌, List, Bool, length, ap, subst,
 use Rattle.free_ranges.specs.Bounds.{Bounds, Tells}
 use Rattle.free_ranges.proofs.Found.{range_small}
 use Rattle.free_ranges.proofs.ranged.RangedBits.last_range.Goals as goal
-use Rattle.free_ranges.proofs.ranged.RangedBits.last_range.Goals.{After-places}
 
 tells : {bits row : List Bool} (bounds : Bounds) → bits ≡ row → Tells bits bounds → Tells row bounds
 tells bounds is told = subst (λ (r : List Bool). Tells r bounds) is told

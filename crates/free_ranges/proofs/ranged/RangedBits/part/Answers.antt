@@ -6,9 +6,7 @@ use Rattle.free_ranges.proofs.Listed.{range_listed, was_complete, marked_listed}
 use Rattle.free_ranges.proofs.ranged.RangedBits.part.Goals as goal
 
 pub split-requires-clause-held : goal.split-requires-clause-held
-split-requires-clause-held c all =
-    let is : IsListed c.args.self.now c.self.inside.ranges = rw c.self.view_is at c.self.invariant.0 in
-    range_listed c.args.self.now c.args.range c.self.inside.ranges c.requires.maximal is all
+split-requires-clause-held c all = grind (arith, range_listed c.args.self.now c.args.range c.self.inside.ranges c.requires.maximal)
 
 pub invariant_of-self : goal.invariant_of-self
 invariant_of-self c =
