@@ -18,9 +18,8 @@ pub use Rattle.std.proofs.lemmas.Bool.{and_left, cases_Bool, cases_lt, cond_both
 pub use Rattle.std.proofs.lemmas.Bool.Decides.{nat_tests}
 pub use Rattle.std.proofs.lemmas.Grind.{common_steps, get_or_head}
 pub use Rattle.std.proofs.lemmas.List.{append-nil, append_assoc, drop-append-le, drop-take, drop_all, get_or-append_right, get_or-drop, get_or-replicate}
-pub use Rattle.std.proofs.lemmas.List.{get_or-take, get_or_append_left, get_or_past, get_or_read, length-append, length-drop, length-replicate, length-take}
-pub use Rattle.std.proofs.lemmas.List.{length-take-le, length_push, replicate-append-replicate, set_split, take-append-le, take-replicate, take-take, take_all}
-pub use Rattle.std.proofs.lemmas.List.{take_at}
+pub use Rattle.std.proofs.lemmas.List.{get_or-take, get_or_append_left, get_or_past, length-append, length-drop, length-replicate, length-take-le, length_push}
+pub use Rattle.std.proofs.lemmas.List.{replicate-append-replicate, set_split, take-append-le, take-replicate, take-take, take_all, take_at}
 pub use Rattle.std.proofs.lemmas.List.Elements.{All-filter, All-from_get_or, All-get_or, All-head, All-nil, All-push, All-tail, All-take, All-weaker}
 pub use Rattle.std.proofs.lemmas.List.Elements.{filter-append, filter_more, filter_passes}
 pub use Rattle.std.proofs.lemmas.List.Sums.{count_by-le-length, fold_push, length-filter, prefix_len_passes, sum_by-cons}

@@ -37,10 +37,7 @@ pub record FoundPlace (c : Cache) (n : ℕ) (result : Option ℕ) : Type 0 where
   pub inside : IfSome result (λ place. place + n ≤ 4096)
 
 fits_there : (c : Cache) (n place : ℕ) → IsSound c → 0 < n → place < length c.taken → n ≤ free_from c.taken place → (n ≤ longest c.taken) × (place + n ≤ 4096)
-fits_there c n place h some inside far = (
-  omega (arith, greatest-ge (free_from c.taken) 0 (length c.taken) place (omega arith) (omega arith)),
-  omega (arith, free_fits c.taken place n some far, h.small),
-)
+fits_there c n place h some inside far = grind (arith, greatest-ge (free_from c.taken) 0 (length c.taken) place, free_fits c.taken place n some far)
 
 pub found_backed : (c : Cache) (n place : ℕ) → IsSound c → 0 < n → best c.unready n ≡ Some place → FoundPlace c n (Some place)
 found_backed c n place h some e =
@@ -57,9 +54,7 @@ is_none r e = subst (λ (o : Option ℕ). IsNone o) (sym e) refl
 
 some_free : (c : Cache) (n : ℕ) (r : Option ℕ) → IsSound c → 0 < n → r ≡ best c.taken n → IfSome r (λ place. n ≤ free_from c.taken place) × IfSome r (λ place. place + n ≤ 4096)
 some_free c n None h some e = (tt, tt)
-some_free c n (Some place) h some e =
-    let fit = best_is_fit c.taken n place (sym e) in
-    (fit.1, (fits_there c n place h some fit.0 fit.1).1)
+some_free c n (Some place) h some e = grind (arith, best_is_fit c.taken n place (sym e), fits_there c n place h some)
 
 pub found_free : (c : Cache) (n : ℕ) (r : Option ℕ) → IsSound c → 0 < n → best c.unready n ≡ None → r ≡ best c.taken n → FoundPlace c n r
 found_free c n r h some none e =

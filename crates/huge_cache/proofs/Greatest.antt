@@ -4,7 +4,7 @@ use Rattle.huge_cache.proofs.Common.{take_all, length_push, append-nil, All-head
 use Rattle.huge_cache.proofs.Common.{All-from_get_or, filter_passes, filter_more, length-filter, count_by-le-length, fold_max, with_newest, greatest_of}
 use Rattle.huge_cache.proofs.Common.{IsFalling}
 use Rattle.std.proofs.Common.{◌≡◌, ℕ, zero, suc, ◌+◌, ◌-◌, ◌<◌, ◌≤◌, Bool, true, false, nat_le, nat_lt, eqb, cond, Option, Some, unwrap_or, is_some, List, []}
-use Rattle.std.proofs.Common.{◌∷◌, ◌++◌, length, get_or, take, drop, filter, fold, max, All, refl, sym, ap, ◌∙◌, inl, inr, arith}
+use Rattle.std.proofs.Common.{◌∷◌, ◌++◌, length, get_or, take, drop, filter, fold, max, All, refl, sym, ap, ◌∙◌, arith}
 
 kept_first : (x y : ℕ) (l : List ℕ) → y ≤ x → with_newest (x ∷ l) y ≡ x ∷ with_newest l y
 kept_first x y l h = ap (λ (b : Bool). cond b (x ∷ filter (λ z. nat_le y z) l) (filter (λ z. nat_le y z) l) ++ y ∷ []) (le-leb y x h)
@@ -26,15 +26,7 @@ oldest x xs = older x [] xs
 -- the first of them is the greatest of all
 pub first_greatest : (xs : List ℕ) → get_or (greatest_of xs) 0 0 ≡ fold max 0 xs
 first_greatest [] = refl
-first_greatest (x ∷ xs) =
-    let more = fold_max (max 0 x) xs in
-    elim (cases_lt x (fold max 0 xs)) [
-      | inl less ↦
-          (let rest : get_or (greatest_of (x ∷ xs)) 0 0 ≡ get_or (greatest_of xs) 0 0 = ap (λ (k : List ℕ). get_or k 0 0) (oldest x xs ∙ ap (λ (b : Bool). cond b (x ∷ greatest_of xs) (greatest_of xs)) (lt-leb (fold max 0 xs) x less)) in
-          let before = first_greatest xs in
-          omega arith)
-      | inr not_less ↦ grind (arith, nat_tests, greatest_of, oldest, le-leb)
-    ]
+first_greatest (x ∷ xs) = grind (arith, nat_tests, first_greatest xs, fold_max, oldest)
 
 -- the oldest count leaves: it is the first of the greatest ones, or none of them
 first_leaves : (counts : List ℕ) → 0 < length counts → get_or counts 0 0 ≡ get_or (greatest_of counts) 0 0 → drop 1 (greatest_of counts) ≡ greatest_of (drop 1 counts)
@@ -107,9 +99,7 @@ last_least [] i h inside = absurd (omega arith)
 last_least (x ∷ []) zero h inside = omega arith
 last_least (x ∷ []) (suc i) h inside = absurd (omega arith)
 last_least (x ∷ (z ∷ l)) zero h inside = let rest = All-get_or (λ y. y ≤ x) (z ∷ l) (length l) 0 (omega arith) h.0 in let e : suc (suc (length l)) - 1 ≡ suc (length l) = omega arith in rw e rest
-last_least (x ∷ (z ∷ l)) (suc i) h inside =
-    let rest = last_least (z ∷ l) i h.1 (omega arith) in
-    grind (arith, nat_tests)
+last_least (x ∷ (z ∷ l)) (suc i) h inside = grind (arith, last_least (z ∷ l) i h.1)
 
 -- where the last isn't below, none is
 pub none_below : (y : ℕ) (l : List ℕ) → IsFalling l → y ≤ get_or l (length l - 1) 0 → filter (λ x. nat_le y x) l ≡ l

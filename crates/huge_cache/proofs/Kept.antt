@@ -35,7 +35,4 @@ pub backed_inside : (c : Cache) (h : ℕ) → is_backed c h ≡ true → (0 < h)
 backed_inside c h e = grind (arith, nat_tests, none_at, backed_at, get_or_past)
 
 pub backed_span : (c : Cache) (first many : ℕ) → 0 < many → ((h : ℕ) → first ≤ h → h < first + many → is_backed c h ≡ true) → (0 < first) × (first - 1 + many ≤ length c.unready)
-backed_span c first many some all =
-    let low = backed_inside c first (all first (omega arith) (omega arith)) in
-    let last = first + many - 1 in
-    (low.0, omega (arith, backed_inside c last (all last (omega arith) (omega arith))))
+backed_span c first many some all = grind (arith, backed_inside)

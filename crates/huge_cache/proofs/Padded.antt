@@ -1,6 +1,6 @@
 -- Rows with used places behind the arena's: what each question and change makes of the arena's part.
-use Rattle.std.proofs.Common.{◌≡◌, ℕ, zero, suc, ◌+◌, ◌-◌, ◌<◌, ◌≤◌, ◌&&◌, Bool, true, false, not, cond, nat_le, nat_lt, List, [], ◌∷◌, ◌++◌, length, get_or, set, take, Option, Some, None, IfSome}
-use Rattle.std.proofs.Common.{drop, replicate, filter, All, refl, sym, ap, ◌∙◌, inl, inr, arith, add-one}
+use Rattle.std.proofs.Common.{◌≡◌, ℕ, zero, suc, ◌+◌, ◌-◌, ◌<◌, ◌≤◌, ◌&&◌, Bool, true, false, not, cond, nat_le, nat_lt, List, [], ◌∷◌, ◌++◌, length, get_or, set, take, Option, IfSome}
+use Rattle.std.proofs.Common.{drop, replicate, filter, All, refl, sym, ap, ◌∙◌, arith, add-one}
 use Rattle.huge_cache.proofs.Common.{nat_tests, prefix_len, range_with_len, cases_lt, and_left, not_from_true, append_assoc, append-nil, length-append}
 use Rattle.huge_cache.proofs.Common.{length-replicate, length-take-le, take-append-le, take_at, take-take, drop-take, drop-append-le, drop_all, take-replicate}
 use Rattle.huge_cache.proofs.Common.{replicate-append-replicate, get_or_append_left, get_or-append_right, get_or-replicate, get_or-take, set_split}
@@ -106,10 +106,7 @@ used_more row start n all inside here = used_next (drop start row) n all (omega 
 pub all_used : (row : List Bool) (n : ℕ) → n ≤ prefix_len (λ used. used) row → used_count (take n row) ≡ n
 all_used row zero all = refl
 all_used [] (suc n) all = grind (arith, nat_tests, prefix_len)
-all_used (true ∷ row) (suc n) all =
-    let rest : n ≤ prefix_len (λ used. used) row = grind (arith, nat_tests, prefix_len) in
-    let here = sum_by-cons (λ (used : Bool). cond used 1 0) true (take n row) in
-    grind (arith, here, all_used row n rest)
+all_used (true ∷ row) (suc n) all = grind (arith, all_used row n, sum_by-cons (λ (used : Bool). cond used 1 0) true (take n row))
 all_used (false ∷ row) (suc n) all = grind (arith, nat_tests, prefix_len)
 
 -- no more are used than there are
@@ -151,29 +148,11 @@ padding huge row p h past inside =
     ∙ get_or-replicate (length row - huge) (p - huge) true true (omega arith)
 
 front_end : (len : ℕ) (row : List Bool) (range : FreeRange) → IsPadded len row → IsRange row range → range.start + range.len ≤ len
-front_end len row range h is = elim (cases_lt len (range.start + range.len)) [
-  | inl past ↦ (let last = range.start + range.len - 1 in absurd (false≢true (sym (is.free last (omega (arith, is.some)) (omega arith)) ∙ padding len row last h (omega arith) (omega (arith, is.within)))))
-  | inr near ↦ near
-]
+front_end len row range h is = grind (arith, nat_tests, padding)
 
 pub last-front : (len : ℕ) (row : List Bool) (o : Option FreeRange) → IsPadded len row → (len ≡ 0 → ⊥) → IfSome o (IsLastRange row (len - 1)) →
     IfSome o (IsLastRange (take len row) (length (take len row) - 1))
-last-front len row None h some is = tt
-last-front len row (Some range) h some is =
-    let size = front_length len row h in
-    let near = front_end len row range h is.maximal in
-    let same : (p : ℕ) → p < len → get_or (take len row) p true ≡ get_or row p true = λ p inside. sym (place-front len row p true h inside) in
-    record {
-      maximal = record {
-        some = is.maximal.some;
-        within = omega arith;
-        free = λ p from to. same p (omega arith) ∙ is.maximal.free p from to;
-        before = λ pos. same (range.start - 1) (omega (arith, is.maximal.some)) ∙ is.maximal.before pos;
-        end = λ l. same (range.start + range.len) (omega arith) ∙ is.maximal.end (omega (arith, h.within));
-      };
-      upto = omega (arith, is.upto);
-      behind = λ p from to. same p (omega (arith, some)) ∙ is.behind p from (omega arith);
-    }
+last-front len row o h some is = grind (arith, front_length, front_end, place-front)
 
 pub none-front : (len : ℕ) (row : List Bool) → IsPadded len row → ((p : ℕ) → p < len → get_or row p true ≡ true) → (p : ℕ) → get_or (take len row) p true ≡ true
 none-front len row h none p = grind (arith, nat_tests, front_length, place-front, cases_lt, get_or_past)

@@ -1,5 +1,5 @@
 use Rattle.std.proofs.Common.{◌≡◌, ℕ, ◌-◌, length, ap, ◌∙◌, arith}
-use Rattle.huge_cache.proofs.Common.{cases_Bool, nat_tests, used_from, with_places, Cache}
+use Rattle.huge_cache.proofs.Common.{cases_Bool, nat_tests, with_places, Cache}
 use Rattle.huge_cache.proofs.Found.{used_too}
 use Rattle.huge_cache.proofs.Kept.{cache_of, sound_put}
 use Rattle.huge_cache.proofs.cache.HugeCache.put.Goals as goal
@@ -8,14 +8,7 @@ pub put-requires-clause-inside : goal.put-requires-clause-inside
 put-requires-clause-inside c = omega (arith, c.requires.inside, c.place_of-place.ensures, ap (λ (v : Cache). length v.taken) c.self.view_is)
 
 pub put-requires-clause-taken : goal.put-requires-clause-taken
-put-requires-clause-taken c free =
-    omega (
-      arith,
-      c.requires.out free,
-      ap (used_from c.self.inside.taken) c.place_of-place.ensures,
-      ap
-          (λ (v : Cache). used_from v.taken (c.args.first.0 - 1)) c.self.view_is,
-    )
+put-requires-clause-taken c free = grind (arith, c.requires.out free)
 
 pub put-requires-2-clause-inside : goal.put-requires-2-clause-inside
 put-requires-2-clause-inside c = omega (arith, c.requires.inside, c.place_of-place.ensures, ap (λ (v : Cache). length v.taken) c.self.view_is, c.self.invariant.lengths)
