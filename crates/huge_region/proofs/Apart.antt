@@ -104,12 +104,7 @@ module _ (w : ℕ) where
   apart_with from [] r apart some low free = (low, tt)
   apart_with from (x ∷ rows) r apart some low free =
       let passed : (h : ℕ) → r.first ≤ h → h < r.first + w → x.first ≤ h → x.first + w ≤ h = λ h a b l. elim (cases_lt h (x.first + w)) [ inl in_it ↦ absurd (none-some x (sym (free h a b) ∙ rw (spans_from w h x.first l in_it) refl)) | inr past ↦ past ] in
-      elim (cases_lt r.first x.first) [
-        | inl before ↦ rw (lt-ltb r.first x.first before) (low, (elim (cases_lt x.first (r.first + w)) [ inl over ↦ absurd (omega (arith, passed x.first (omega arith) over (omega arith))) | inr apart_from ↦ apart_from ], apart.1))
-        | inr behind ↦
-            rw (le-ltb r.first x.first behind)
-            (apart.0, apart_with (x.first + w) rows r apart.1 some (passed r.first (omega arith) (omega arith) behind) (λ h a b. sym (ap (λ (t : Bool). cond t (Some x) (with_huge h rows)) (spans_behind w h x.first (passed h a b (omega arith)))) ∙ free h a b))
-      ]
+      grind (arith, nat_tests, apart_with (x.first + w) rows r apart.1 some, passed x.first, passed r.first, spans_behind w, free)
 
   -- A row leaves.
   pub removed_is : (from : ℕ) (rows : List RegionRow) (i : ℕ) (d : RegionRow) → AreApartFrom w from rows → 0 < w → i < length rows → without_key (λ (x : RegionRow). x.first) (get_or rows i d).first rows ≡ remove rows i
@@ -124,9 +119,7 @@ module _ (w : ℕ) where
 
   pub apart_filter : (p : RegionRow → Bool) (from : ℕ) (rows : List RegionRow) → AreApartFrom w from rows → AreApartFrom w from (filter p rows)
   apart_filter p from [] apart = tt
-  apart_filter p from (r ∷ rows) apart =
-      let rest = apart_filter p (r.first + w) rows apart.1 in
-      grind (arith, nat_tests, lower)
+  apart_filter p from (r ∷ rows) apart = grind (arith, apart_filter p (r.first + w) rows apart.1, lower)
 
   -- The arena has room for so many.
   pub they_fit : (from huge : ℕ) (rows : List RegionRow) → AreApartFrom w from rows → All (λ r. r.first + w ≤ huge + 1) rows → from ≤ huge + 1 → from + length rows * w ≤ huge + 1

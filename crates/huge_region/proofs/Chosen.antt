@@ -1,5 +1,5 @@
 -- The region whose key is found is the preferred one, and the place in it.
-use Rattle.std.proofs.Common.{◌≡◌, ℕ, ◌+◌, ◌*◌, ◌/◌, ◌<◌, ◌≤◌, true, false, not, nat_lt, nat_eq, List, get_or, filter, Some, None, option_map, All, Contains, sym, ap, subst, ◌∙◌, inl, inr, arith}
+use Rattle.std.proofs.Common.{◌≡◌, ℕ, ◌+◌, ◌*◌, ◌/◌, ◌<◌, ◌≤◌, true, false, not, nat_lt, nat_eq, List, get_or, filter, Some, None, All, Contains, sym, ap, subst, ◌∙◌, inl, inr, arith}
 use Rattle.huge_region.proofs.Common.{list_all, cases_Bool, cases_lt, le-leb, lt-leb, leb-true, not_from_false, not-true, nat_tests, All-contains, All-filter}
 use Rattle.huge_region.proofs.Common.{All-contains_itself, filter_passes, Contains-get_or, none-some, longest, best, first_least, best_is_fit}
 use Rattle.huge_region.proofs.Common.{RegionRow, is_preferred, has_room, region_place, place_in_region, row_held, key_held, RegionKey, Inside, comes_before}
@@ -98,12 +98,4 @@ placed all n h start r sound some is e =
     let first : 256 * r.first + start ≡ 256 * h + start = ap (λ (x : ℕ). 256 * x + start) is.first in
     let huge : (256 * h + start) / 256 ≡ h + start / 256 = omega arith in
     let offset : start_in r (256 * h + start) ≡ start = omega (arith, is.first) in
-    record {
-      place = ap (place_in_region n) is.least ∙ ap (option_map (λ s. 256 * r.first + s)) e ∙ ap (λ (x : ℕ). Some x) first;
-      region = r;
-      free = record {
-        row = ap (region_with all) huge ∙ held_has all (h + start / 256) r sound is.has.held (omega (arith, is.first)) (omega (arith, is.first, is.has.size));
-        free = rw offset fit.1;
-      };
-      small = omega (arith, is.has.arena, is.first, sound.small, is.has.size, sound.narrow);
-    }
+    grind (arith, held_has all (h + start / 256) r sound is.has.held)

@@ -13,7 +13,7 @@ pub use Rattle.range_bits.proofs.Placing.{length-with_places}
 pub use Rattle.range_bits.proofs.RangeFacts.{best_is_fit, best_there}
 pub use Rattle.range_bits.specs.Ranges.{best, first_least, free_from, longest, used_count, used_from, with_places}
 pub use Rattle.sorted_list.proofs.Rows.{index_changed, index_fewer, index_more, key_held, row_held}
-pub use Rattle.std.proofs.Math.Nat.{le-div_iff_mul-le, suc-mul}
+pub use Rattle.std.proofs.Math.Nat.{suc-mul}
 pub use Rattle.std.proofs.lemmas.Bool.{and_parts, cases_Bool, cases_lt, eq-eqb, eqb-true, le-leb, le-ltb, leb-false, leb-true, lt-leb, lt-ltb, ltb-true, ne_eqb}
 pub use Rattle.std.proofs.lemmas.Bool.{not-true, not_from_false}
 pub use Rattle.std.proofs.lemmas.Bool.Decides.{nat_tests}

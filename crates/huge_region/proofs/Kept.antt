@@ -1,6 +1,6 @@
 -- What is kept of regions and beside them, where one changes, comes or leaves.
-use Rattle.std.proofs.Common.{◌≡◌, ℕ, ◌+◌, ◌*◌, ◌/◌, ◌<◌, ◌≤◌, Bool, true, false, ◌==◌, not, cond, List, [], ◌∷◌, ◌++◌, length, get_or, set, insert, remove, filter, replicate, Some, None, Contains, IsPermutation, refl, sym, ap, subst, ◌∙◌, inl, inr, arith}
-use Rattle.huge_region.proofs.Common.{nat_tests, le-div_iff_mul-le, cases_Bool, eqb-true, same_Some, length-set, length-replicate, length_push, All-contains}
+use Rattle.std.proofs.Common.{◌≡◌, ℕ, ◌+◌, ◌*◌, ◌/◌, ◌<◌, ◌≤◌, Bool, true, false, ◌==◌, not, cond, List, [], ◌∷◌, ◌++◌, length, get_or, set, insert, remove, filter, replicate, Some, None, Contains, IsPermutation, refl, sym, ap, subst, ◌∙◌, arith}
+use Rattle.huge_region.proofs.Common.{nat_tests, eqb-true, same_Some, length-set, length-replicate, length_push, All-contains}
 use Rattle.huge_region.proofs.Common.{All-set, All-push, All-pop, All-filter, huge_pages, used_count, with_places, RegionRow, index_more, index_fewer}
 use Rattle.huge_region.proofs.Common.{index_changed, key_held, RegionKey, Inside, comes_before, total, IsSound, IsKept, IsSpare, IsInside, regions_of, key_of}
 use Rattle.huge_region.proofs.Common.{Regions, region_with, with_changed, with_region, without_region, unused, is_unused, start_in}
@@ -33,15 +33,10 @@ has_huge all h r sound e = grind (arith, nat_tests, begins, found_parts, All-con
 
 -- a region that is held has all its hugepages, and is told by its first
 pub held_has : (all : Regions) (h : ℕ) (r : RegionRow) → IsSound all → Contains all.rows r → r.first ≤ h → h < r.first + all.width → region_with all h ≡ Some r
-held_has all h r sound held low high =
-    let first = ap (λ (x : RegionRow). x.first) held.2 in
-    found_there all.width 1 h all.rows held.0 r sound.apart held.1 (omega arith) (omega arith) ∙ ap (λ (x : RegionRow). Some x) held.2
+held_has all h r sound held low high = grind (arith, found_there all.width 1 h all.rows held.0 r sound.apart held.1)
 
 pub one_region : (all : Regions) (a b : RegionRow) → IsSound all → Contains all.rows a → Contains all.rows b → a.first ≡ b.first → a ≡ b
-one_region all a b sound in_a in_b same =
-    same_Some a b
-    (sym (held_has all a.first a sound in_a (omega arith) (omega (arith, sound.wide)))
-    ∙ held_has all a.first b sound in_b (omega arith) (omega (arith, sound.wide)))
+one_region all a b sound in_a in_b same = grind (arith, held_has all a.first a sound in_a, held_has all a.first b sound in_b)
 
 -- a region at its place in the list, as it is found by one of its hugepages
 pub record Stands (v : Regions) (h place : ℕ) (r : RegionRow) : Type 0 where
@@ -103,12 +98,7 @@ put t now keys' h place page n b old new before after inside same at there is si
         rest = omega (arith, length-set rows place new, kept.rest);
         unused = kept.unused;
       };
-      view = λ r found.
-          let one : old ≡ r = same_Some old r (sym at.found ∙ ap (λ (y : Regions). region_with y h) same ∙ ap (region_with now) there ∙ found) in
-          ap (with_rows v) (ap (set rows place) (is ∙ ap change (sym at.is)) ∙ sym (at_place v.width 1 rows place change old sound.apart (omega (arith, sound.wide)) at.inside))
-          ∙ ap (λ (f : ℕ). with_changed v f change) here
-          ∙ ap (λ (x : RegionRow). with_changed v x.first (put_in (start_in x page) n b)) one
-          ∙ ap (λ (y : Regions). with_changed y r.first (put_in (start_in r page) n b)) same;
+      view = grind (arith, at_place v.width 1 rows place change old sound.apart);
     }
 
 -- A region comes, on hugepages that none has.
@@ -130,18 +120,15 @@ comes v first b sound new =
     let r : RegionRow = unused w first in
     let key : RegionRow → ℕ = λ x. x.first in
     let high : RegionRow → Type 0 = λ x. x.first + w ≤ v.huge + 1 in
-    let some : 0 < w = omega (arith, sound.wide) in
-    let all : IsSound (with_region v first) = record {
-      small = sound.small;
-      wide = sound.wide;
-      narrow = sound.narrow;
-      apart = apart_with w 1 v.rows r sound.apart some new.low new.free;
-      high = All-with_item key high r v.rows new.high sound.high;
-      sizes = All-with_item key (λ (x : RegionRow). length x.used ≡ huge_pages * w) r v.rows (length-replicate (huge_pages * w) false) sound.sizes;
-    } in
-    let is = ap (with_rows v) (inserted_is w v.rows b r r new.within new.before new.behind) in
-    let many = they_fit w 1 v.huge (with_region v first).rows all.apart all.high (omega arith) in
-    (all, is, (le-div_iff_mul-le {k = w} {x = length v.rows + 1} {y = v.huge} some).1 (omega (arith, many, ap (λ (n : ℕ). n * w) (length-with_item key r v.rows))))
+    grind (
+      arith,
+      apart_with w 1 v.rows r sound.apart,
+      All-with_item key high r v.rows new.high sound.high,
+      All-with_item key (λ (x : RegionRow). length x.used ≡ huge_pages * w) r v.rows (length-replicate (huge_pages * w) false) sound.sizes,
+      inserted_is w v.rows b r r new.within new.before new.behind,
+      they_fit w 1 v.huge (with_region v first).rows,
+      length-with_item key r v.rows,
+    )
 
 pub came : (v : Regions) (keys keys' : Contents RegionKey) (spare spare' rows' : List RegionRow) (first b : ℕ) (region new : RegionRow) (key : RegionKey) → IsKept v keys spare → IsNew v first b → spare ≡ spare' ++ region ∷ [] → new ≡ record region { first = first } → rows' ≡ insert v.rows b new → key ≡ key_of new → IsPermutation (key ∷ keys.keys) keys'.keys → keys'.spare + 1 ≡ keys.spare → Became v keys' spare' rows' (with_region v first)
 came v keys keys' spare spare' rows' first b region new key kept there spared is inserted key_is moved room =
@@ -152,26 +139,17 @@ came v keys keys' spare spare' rows' first b region new key kept there spared is
     let rows_are : rows' ≡ insert v.rows b (unused w first) = inserted ∙ ap (insert v.rows b) new_is in
     let view : with_rows v rows' ≡ with_region v first = ap (with_rows v) rows_are ∙ sym more.1 in
     let fewer : length spare' + 1 ≡ length spare = omega (arith, ap (λ (l : List RegionRow). length l) spared, length_push spare' region) in
-    record {
-      kept = record {
-        sound = subst IsSound (sym view) more.0;
-        keys_are = index_more key_of v.rows rows' keys.keys keys'.keys key kept.keys_are moved (λ test. let a : passing test new ≡ cond (test key) 1 0 = rw key_is refl in rw inserted (omega (arith, sum_by-insert (passing test) v.rows b new)));
-        room = omega (arith, kept.room);
-        rest = omega (arith, ap (λ (l : List RegionRow). length l) rows_are, length-insert v.rows b (unused w first) there.within, kept.rest);
-        unused = parts.0;
-      };
-      view = view;
-    }
+    grind (
+      arith,
+      index_more key_of v.rows rows' keys.keys keys'.keys key kept.keys_are moved,
+      sum_by-insert,
+      length-insert v.rows b (unused w first) there.within,
+    )
 
 -- A region without used pages leaves.
 none_used : (row : List Bool) → used_count row ≡ 0 → row ≡ replicate (length row) false
 none_used [] none = refl
-none_used (u ∷ row) none =
-    let count = sum_by-cons (λ (x : Bool). cond x 1 0) u row in
-    elim (cases_Bool u) [
-      | inl t ↦ (let one : ◌≡◌ {A = ℕ} (cond u 1 0) 1 = rw t refl in absurd (omega arith))
-      | inr f ↦ (let rest = none_used row (omega arith) in let tail : row ≡ replicate (length row) false = rest in ap (λ (x : Bool). x ∷ row) f ∙ ap (λ (xs : List Bool). false ∷ xs) tail)
-    ]
+none_used (u ∷ row) none = grind (arith, nat_tests, none_used row, sum_by-cons (λ (x : Bool). cond x 1 0) u row)
 
 pub gone : (v : Regions) (keys keys' : Contents RegionKey) (spare spare' rows' : List RegionRow) (h place : ℕ) (old : RegionRow) (key : RegionKey) → IsKept v keys spare → Stands v h place old → is_unused old ≡ true → key ≡ key_of old → IsPermutation keys.keys (key ∷ keys'.keys) → keys'.spare ≡ keys.spare + 1 → rows' ≡ remove v.rows place → spare' ≡ spare ++ old ∷ [] → Became v keys' spare' rows' (without_region v old.first)
 gone v keys keys' spare spare' rows' h place old key kept at empty key_is moved room removed spared =
