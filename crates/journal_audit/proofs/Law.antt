@@ -3,27 +3,26 @@ use Rattle.std.proofs.Common.{◌≡◌, ℕ, suc, ◌+◌, ◌<◌, ◌≤◌, 
 use Rattle.std.proofs.Common.{sym, ap, ◌∙◌, subst, inl, inr, arith, append_assoc, append-nil, length-append}
 use Rattle.std.specs.Prelude.{slice_get, IfOk}
 use Rattle.std.specs.List.{AllZip}
-use Rattle.std.proofs.lemmas.Bool.{cases_Bool, cases_lt, ltb-false, le-ltb, eqb-true, eqb-false, eq-eqb, cond-true, cond-false}
+use Rattle.std.proofs.lemmas.Bool.{cases_Bool, cases_lt, ltb-false, eqb-true, eqb-false, cond-false}
 use Rattle.std.specs.Option.{option_map_or}
 use Rattle.std.proofs.lemmas.List.{length-map, take_more, take_all}
 use Rattle.std.proofs.lemmas.List.Elements.{filter-append}
 use Rattle.std.proofs.lemmas.Option.{slice_get-map, slice_get_within, slice_get_past, get_or_from_slice_get}
+use Rattle.std.proofs.lemmas.Bool.Decides.{nat_tests}
 use Rattle.tc_units.specs.Classes.{length_of}
 use Rattle.tc_model.specs.declared.calls.Call.{Call}
 use Rattle.tc_model.specs.declared.calls.Planned.{Planned}
 use Rattle.tc_model.specs.declared.calls.Script.{Script}
-use Rattle.tc_model.specs.declared.answers.Answer.{Answer}
 use Rattle.tc_model.specs.declared.answers.CallLine.{CallLine}
 use Rattle.tc_model.specs.Blocks.{IsAllowed, IsBlockRun}
 use Rattle.journal_audit.specs.declared.told.Told.{Told}
 use Rattle.journal_audit.specs.declared.verdict.AuditWhy.{AuditWhy}
-use Rattle.journal_audit.specs.declared.verdict.AuditWhy.TheVariants as why
 use Rattle.journal_audit.specs.declared.verdict.Verdict.{Verdict}
-use Rattle.journal_audit.specs.declared.verdict.Verdict.TheVariants.{Yes, No}
-use Rattle.journal_audit.specs.Forms.{names, answer_of}
+use Rattle.journal_audit.specs.declared.verdict.Verdict.TheVariants.{Yes}
+use Rattle.journal_audit.specs.Forms.{names}
 use Rattle.journal_audit.specs.Rules.{Plan, script_at, is_by, count_of, next_call, line_of, judged, and_then, has_left, audited}
 use Rattle.journal_audit.specs.Legal.{Tells, calls_of, calls_planned, IsYesOnLegal}
-use Rattle.journal_audit.proofs.Passing.{Keeps, Passes, passes, judged_ok}
+use Rattle.journal_audit.proofs.Passing.{Passes, passes, judged_ok}
 use Rattle.journal_audit.proofs.Threads.{count_mine, count_other, none_below, none_in}
 use Rattle.journal_audit.proofs.Sound.{IsSound, sound_none, sound_push, allowed_keeps}
 
@@ -61,10 +60,7 @@ begun_push plan calls c begun next t =
           let at = ap (λ (x : Call). take n (calls_planned plan t) ++ x ∷ []) (get_or_from_slice_get (calls_planned plan t) n c.call c.call there) in
           let long = take_more (calls_planned plan t) n c.call (slice_get_within _ n c.call there) ∙ at in
           more ∙ ap (λ xs. calls_of t calls ++ xs) call ∙ ap (λ xs. xs ++ c.call ∷ []) (begun t) ∙ sym long ∙ ap (λ k. take k (calls_planned plan t)) (sym n')
-      | inr other ↦
-          let call : calls_of t (c ∷ []) ≡ [] = ap (λ b. map (λ (d : CallLine). d.call) (cond b (c ∷ []) [])) other in
-          let n' : count_of t (calls ++ c ∷ []) ≡ n = count_other t calls c (eqb-false c.thread.0 t other) in
-          more ∙ ap (λ xs. calls_of t calls ++ xs) call ∙ append-nil (calls_of t calls) ∙ begun t ∙ ap (λ k. take k (calls_planned plan t)) (sym n')
+      | inr other ↦ grind (arith, nat_tests, count_other t calls c (eqb-false c.thread.0 t other), append-nil (calls_of t calls), begun t)
     ]
 
 -- no script has a call left exactly where each thread's calls are its script's
@@ -80,9 +76,7 @@ ended plan calls begun none t =
     begun t ∙ take_all (count_of t calls) (calls_planned plan t) (omega (arith, long, all))
 
 none_left : (plan : Plan) (calls : List CallLine) → ((t : ℕ) → calls_of t calls ≡ calls_planned plan t) → has_left plan.scripts calls ≡ false
-none_left plan calls order =
-    none_in (λ t. nat_lt (count_of t calls) (length (script_at plan.scripts t))) 0 (length plan.scripts)
-    (λ t less. le-ltb (count_of t calls) _ (omega (arith, sym (count_is t calls), ap length (order t), length-map (script_at plan.scripts t) (λ (p : Planned). p.call))))
+none_left plan calls order = grind (arith, nat_tests, none_in, count_is, length-map)
 
 -- What the lines that are left tell, where the verdict is Yes.
 record Rest (plan : Plan) (earlier : List CallLine) (forms : List (Option Told)) (n : ℕ) : Type 0 where
@@ -105,37 +99,15 @@ tells plan earlier form c p =
 
 sound_after : (plan : Plan) (earlier : List CallLine) (form : Option Told) (c : CallLine) → IsSound plan.huge (length_of plan.rows) earlier
     → Passes plan earlier form c → IsSound plan.huge (length_of plan.rows) (earlier ++ c ∷ [])
-sound_after plan earlier form c sound p =
-    let is = p.line in
-    let keeps : Keeps plan earlier p.call (answer_of p.told.act) = subst (λ (d : CallLine). Keeps plan earlier d.call d.answer) is p.keeps in
-    subst (λ (d : CallLine). IsSound plan.huge (length_of plan.rows) (earlier ++ d ∷ [])) (sym is) (sound_push plan earlier (record { 0 = p.told.thread }) p.told.act p.call sound p.names_it keeps)
+sound_after plan earlier form c sound p = grind (arith, sound_push plan earlier)
 
 begun_after : (plan : Plan) (earlier : List CallLine) (form : Option Told) (c : CallLine) → IsBegun plan earlier → Passes plan earlier form c
     → IsBegun plan (earlier ++ c ∷ [])
-begun_after plan earlier form c begun p =
-    let is = p.line in
-    begun_push plan earlier c begun (subst (λ (d : CallLine). next_call plan.scripts earlier d.thread.0 ≡ Some d.call) (sym is) p.next)
+begun_after plan earlier form c begun p = grind (arith, begun_push)
 
 yes_from : (plan : Plan) (forms : List (Option Told)) (earlier : List CallLine) (n : ℕ) → IsSound plan.huge (length_of plan.rows) earlier
     → IsBegun plan earlier → length earlier ≤ 1000000 → audited plan earlier forms ≡ Yes n → Rest plan earlier forms n
-yes_from plan [] earlier n sound begun few h =
-    elim (cases_Bool (has_left plan.scripts earlier)) [
-      | inl left ↦
-          let wrong : No (length earlier + 1) why.Missing ≡ Yes n = sym (cond-true _ (No (length earlier + 1) why.Missing) (Yes (length earlier)) left) ∙ h in
-          absurd (cc)
-      | inr none ↦
-          let is : Yes (length earlier) ≡ Yes n = sym (cond-false _ (No (length earlier + 1) why.Missing) (Yes (length earlier)) none) ∙ h in
-          let count : length earlier ≡ n = cc in
-          let same : earlier ++ [] ≡ earlier = append-nil earlier in
-          record {
-            calls = [];
-            told = tt;
-            order = λ t. ap (calls_of t) same ∙ ended plan earlier begun none t;
-            run = subst (IsBlockRun plan.huge (length_of plan.rows)) (sym same) sound.run;
-            count = omega (arith, count);
-            few = omega (arith, few, count);
-          }
-    ]
+yes_from plan [] earlier n sound begun few h = grind (arith, nat_tests, append-nil earlier, ended plan earlier begun)
 yes_from plan (form ∷ forms) earlier n sound begun few h = by_line (λ c sound' begun' few'. yes_from plan forms (earlier ++ c ∷ []) n sound' begun' few') (judged plan earlier form) refl h
   where
     by_line : ((c : CallLine) → IsSound plan.huge (length_of plan.rows) (earlier ++ c ∷ []) → IsBegun plan (earlier ++ c ∷ []) → length (earlier ++ c ∷ []) ≤ 1000000
@@ -162,35 +134,21 @@ at_length [] ys y = refl
 at_length (x ∷ xs) ys y = at_length xs ys y
 
 line_is : (form : Option Told) (c : CallLine) (t : Tells form c) → c ≡ line_of t.told c.call
-line_is form c t =
-    let f : ℕ → Answer → CallLine = λ x a. record { thread = record { 0 = x }; call = c.call; answer = a } in
-    ap (λ x. f x c.answer) t.thread ∙ ap (f t.told.thread) t.answer
+line_is form c t = grind (arith)
 
 passes_legal : (plan : Plan) (earlier later : List CallLine) (form : Option Told) (c : CallLine) → Tells form c
     → calls_of c.thread.0 (earlier ++ c ∷ later) ≡ calls_planned plan c.thread.0 → IsAllowed plan.huge (length_of plan.rows) earlier c.call c.answer
     → length earlier < 1000000 → Passes plan earlier form c
-passes_legal plan earlier later form c t order allowed few =
-    let thread : ℕ = c.thread.0 in
-    let first : calls_of thread (c ∷ later) ≡ c.call ∷ calls_of thread later =
-    ap (λ b. map (λ (d : CallLine). d.call) (cond b (c ∷ filter (is_by thread) later) (filter (is_by thread) later))) (eq-eqb thread thread refl) in
-    let parts : calls_planned plan thread ≡ calls_of thread earlier ++ c.call ∷ calls_of thread later =
-    sym order ∙ calls_append thread earlier (c ∷ later) ∙ ap (λ xs. calls_of thread earlier ++ xs) first in
-    let there : slice_get (calls_planned plan thread) (count_of thread earlier) ≡ Some c.call =
-    ap (slice_get (calls_planned plan thread)) (sym (count_is thread earlier)) ∙ ap (λ xs. slice_get xs (length (calls_of thread earlier))) parts
-    ∙ at_length (calls_of thread earlier) (calls_of thread later) c.call in
-    let next : next_call plan.scripts earlier thread ≡ Some c.call =
-    sym (slice_get-map (λ (p : Planned). p.call) (script_at plan.scripts thread) (count_of thread earlier)) ∙ there in
-    let keeps = allowed_keeps plan earlier t.told.act c.call t.call (subst (IsAllowed plan.huge (length_of plan.rows) earlier c.call) t.answer allowed) in
-    record {
-      few = few;
-      told = t.told;
-      form_is = t.form_is;
-      call = c.call;
-      next = ap (next_call plan.scripts earlier) (sym t.thread) ∙ next;
-      names_it = t.call;
-      line = line_is form c t;
-      keeps = subst (Keeps plan earlier c.call) (sym t.answer) keeps;
-    }
+passes_legal plan earlier later form c t order allowed few = grind (
+  arith,
+  nat_tests,
+  calls_append,
+  count_is,
+  at_length,
+  slice_get-map (λ (p : Planned). p.call),
+  allowed_keeps plan earlier t.told.act c.call t.call (subst (IsAllowed plan.huge (length_of plan.rows) earlier c.call) t.answer allowed),
+  line_is form c t,
+)
 
 legal_from : (plan : Plan) (forms : List (Option Told)) (earlier calls : List CallLine) → AllZip Tells forms calls
     → ((t : ℕ) → calls_of t (earlier ++ calls) ≡ calls_planned plan t) → IsBlockRun plan.huge (length_of plan.rows) (earlier ++ calls)
@@ -202,9 +160,7 @@ legal_from plan (form ∷ forms) earlier (c ∷ calls) told order run few =
     let same : (earlier ++ c ∷ []) ++ calls ≡ earlier ++ c ∷ calls = append_assoc earlier (c ∷ []) calls in
     let long : length (earlier ++ c ∷ calls) ≡ length earlier + length (c ∷ calls) = length-append earlier (c ∷ calls) in
     let p = passes_legal plan earlier calls form c told.0 (order c.thread.0) (run earlier c calls refl) (omega (arith, few, long)) in
-    let rest =
-    legal_from plan forms (earlier ++ c ∷ []) calls told.1 (λ t. ap (calls_of t) same ∙ order t) (rw same run) (omega (arith, ap length same, few)) in
-    ap (λ r. and_then (length earlier + 1) r (λ d. audited plan (earlier ++ d ∷ []) forms)) (judged_ok plan earlier form c p) ∙ rest ∙ ap (λ xs. Yes (length xs)) same
+    grind (arith, legal_from plan forms (earlier ++ c ∷ []) calls told.1 (λ t. ap (calls_of t) same ∙ order t), order, judged_ok plan earlier form c p)
 
 yes_is_legal : (plan : Plan) (journal : List (Option Told)) → IsYesOnLegal plan journal (audited plan [] journal)
 yes_is_legal plan journal n = (

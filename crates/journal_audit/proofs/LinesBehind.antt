@@ -1,5 +1,5 @@
 -- Lines that are printed stay as they are, whatever stands behind them in a text.
-use Rattle.std.proofs.Common.{◌≡◌, ℕ, ◌<◌, Bool, true, false, List, [], ◌∷◌, ◌++◌, length, map, cond, refl, sym, ap, ◌∙◌, arith, append_assoc}
+use Rattle.std.proofs.Common.{◌≡◌, ℕ, ◌<◌, Bool, List, [], ◌∷◌, ◌++◌, length, map, cond, refl, ap, arith, append_assoc}
 use Rattle.std.specs.List.{flat_map, join_with_byte, slice_split, onto_first}
 use Rattle.std.proofs.lemmas.List.{map-append}
 use Rattle.std.proofs.lemmas.List.Splits.{length-slice_split}
@@ -16,9 +16,7 @@ some_parts text = omega (arith, length-slice_split is_line_feed text)
 -- a line feed cuts a text in two
 first_behind : (b : ℕ) (cut : Bool) (xs ys : List (List ℕ)) → 0 < length xs
     → cond cut ([] ∷ xs ++ ys) (onto_first b (xs ++ ys)) ≡ cond cut ([] ∷ xs) (onto_first b xs) ++ ys
-first_behind b cut [] ys some = absurd (omega (arith, some))
-first_behind b true (x ∷ xs) ys some = refl
-first_behind b false (x ∷ xs) ys some = refl
+first_behind b cut xs ys some = grind (arith)
 
 cut_in_two : (a rest : List ℕ) → parts (a ++ 10 ∷ rest) ≡ parts a ++ parts rest
 cut_in_two [] rest = refl
@@ -34,15 +32,11 @@ abbrev read_line : List ℕ → List (List ℕ)
 read_line line = fields_of (without_return line)
 
 lines_in_two : (a rest : List ℕ) → lines_of (a ++ 10 ∷ rest) ≡ map read_line (parts a) ++ lines_of rest
-lines_in_two a rest =
-    ap (λ (xs : List (List ℕ)). map read_line (without_last_empty xs)) (cut_in_two a rest) ∙ ap (map read_line) (last_empty (parts a) (parts rest) (some_parts rest))
-    ∙ map-append read_line (parts a) (without_last_empty (parts rest))
+lines_in_two a rest = grind (arith, cut_in_two, last_empty, some_parts, map-append)
 
 lines_before : (lines : List (List (List ℕ))) (more : List ℕ) → lines_of (flat_map joined_line lines ++ more) ≡ lines_of (flat_map joined_line lines) ++ lines_of more
 lines_before [] more = refl
 lines_before (line ∷ lines) more = grind (arith, append_assoc, flat_map, join_with_byte, joined_line, lines_in_two, lines_of, map, parts, read_line, (lines_before lines more))
 
 pub printed_stays : (text : List ℕ) (lines : List (List (List ℕ))) (more : List ℕ) → IsPrinted text lines → lines_of (text ++ more) ≡ lines ++ lines_of more
-printed_stays text lines more printed =
-    ap (λ (t : List ℕ). lines_of (t ++ more)) printed.joined ∙ lines_before lines more
-    ∙ ap (λ (ls : List (List (List ℕ))). ls ++ lines_of more) (ap lines_of (sym printed.joined) ∙ printed_is_cut text lines printed)
+printed_stays text lines more printed = grind (arith, lines_before, printed_is_cut)

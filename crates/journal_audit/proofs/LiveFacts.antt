@@ -1,18 +1,17 @@
 -- The live blocks as entries of an ordered map.
 use Rattle.std.proofs.Common.{◌≡◌, ℕ, ◌+◌, ◌-◌, ◌<◌, ◌≤◌, Bool, true, false, not, ◌||◌, nat_lt, cond, List, [], ◌∷◌, ◌++◌, length, filter, refl, sym, ap}
-use Rattle.std.proofs.Common.{◌∙◌, subst, inl, inr, arith, length-append}
+use Rattle.std.proofs.Common.{◌∙◌, inl, inr, arith, length-append}
 use Rattle.std.specs.Prelude.{All}
 use Rattle.std.specs.List.{list_any}
 use Rattle.std.specs.Map.{remove_entry}
 use Rattle.std.specs.BTreeMap.{insert_entry, is_at}
 use Rattle.std.specs.BTreeMap.Range.{range_contains}
 use Rattle.std.specs.declared.ops.Bound.TheVariants.{Excluded, Unbounded}
-use Rattle.std.specs.Ordering.{nat_cmp, is_eq, is_le, match_ordering}
+use Rattle.std.specs.Ordering.{nat_cmp, is_eq}
 use Rattle.std.specs.Cmp.{nat_cmp_is}
-use Rattle.std.specs.declared.cmp.Ordering.{Ordering}
-use Rattle.std.specs.declared.cmp.Ordering.TheVariants.{Less, Equal, Greater}
-use Rattle.std.proofs.lemmas.Bool.{cases_Bool, cases_lt, cases_order, and_left, and_right, lt-ltb, le-ltb, ltb-true, eq-eqb, ne_eqb, or_parts, cond-true, cond-false, false≢true}
+use Rattle.std.proofs.lemmas.Bool.{cases_Bool, cases_lt, cases_order, and_left, and_right, lt-ltb, le-ltb, ltb-true, eq-eqb, ne_eqb, cond-true, cond-false}
 use Rattle.std.proofs.lemmas.List.Elements.{All-cons, All-head, All-tail, All-nil, filter_agree}
+use Rattle.std.proofs.lemmas.Bool.Decides.{nat_tests}
 use Rattle.tc_model.specs.Blocks.{Extent, with_block, without_block, meets}
 use Rattle.journal_audit.specs.Spread.{IsSpread, extents_of}
 use Rattle.journal_audit.proofs.Spreads.{they_meet}
@@ -25,28 +24,12 @@ pub inserted : (es : List (ℕ × ℕ)) (addr len : ℕ) → 0 < len → IsSprea
     → list_any (meets (record { addr = addr; len = len })) (extents_of es) ≡ false
     → extents_of (insert_entry nat_cmp es addr len) ≡ with_block (record { addr = addr; len = len }) (extents_of es)
 inserted [] addr len some spread apart = refl
-inserted (e ∷ es) addr len some spread apart =
-    let x : Extent = record { addr = addr; len = len } in
-    let parts = or_parts (meets x (extent e)) (list_any (meets x) (extents_of es)) apart in
-    let placed = λ (o : Ordering). extents_of (match_ordering o ((addr, len) ∷ e ∷ es) ((e.0, len) ∷ es) (e ∷ insert_entry nat_cmp es addr len)) in
-    elim (cases_order addr e.0) [
-      | inl same ↦ absurd (false≢true (sym parts.0 ∙ they_meet x (extent e) (omega (arith, same, spread.0)) (omega (arith, same, some))))
-      | inr other ↦
-          elim other [
-            | inl less ↦ ap placed (sym (nat_cmp_is addr e.0 Less less)) ∙ sym (cond-true (nat_lt addr e.0) _ (extent e ∷ with_block x (extents_of es)) (lt-ltb addr e.0 less))
-            | inr more ↦
-                ap placed (sym (nat_cmp_is addr e.0 Greater more)) ∙ ap (λ bs. extent e ∷ bs) (inserted es addr len some spread.2 parts.1)
-                ∙ sym (cond-false (nat_lt addr e.0) (x ∷ extent e ∷ extents_of es) (extent e ∷ with_block x (extents_of es)) (le-ltb addr e.0 (omega (arith, more))))
-          ]
-    ]
+inserted (e ∷ es) addr len some spread apart = grind (arith, nat_tests, inserted es addr len some spread.2, cases_order addr e.0, they_meet)
 
 -- the one that begins at an address is taken away as there
 none_to_take : (addr : ℕ) (bs : List Extent) → All (λ (b : Extent). addr < b.addr) bs → without_block addr bs ≡ bs
 none_to_take addr [] all = refl
-none_to_take addr (b ∷ bs) all =
-    let above = All-head (λ (b : Extent). addr < b.addr) b bs all in
-    ap (λ t. cond (not t) (b ∷ without_block addr bs) (without_block addr bs)) (ne_eqb b.addr addr (λ e. omega (arith, e, above)))
-    ∙ ap (λ cs. b ∷ cs) (none_to_take addr bs (All-tail (λ (b : Extent). addr < b.addr) b bs all))
+none_to_take addr (b ∷ bs) all = grind (arith, nat_tests, none_to_take addr bs (All-tail (λ (b : Extent). addr < b.addr) b bs all), All-head, All-tail)
 
 bytes : (bs : List Extent) → IsSpread bs → All (λ (b : Extent). 0 < b.len) bs
 bytes [] spread = All-nil (λ (b : Extent). 0 < b.len)
@@ -71,18 +54,7 @@ not_met : (x : Extent) (e : ℕ × ℕ) → before (x.addr + x.len) e ≡ false 
 not_met x e behind = and_right (nat_lt x.addr (e.0 + e.1)) (before (x.addr + x.len) e) behind
 
 pub in_range : (end : ℕ) (es : List (ℕ × ℕ)) → filter (λ (e : ℕ × ℕ). range_contains nat_cmp Unbounded (Excluded end) e.0) es ≡ filter (before end) es
-in_range end es = filter_agree (λ (e : ℕ × ℕ). range_contains nat_cmp Unbounded (Excluded end) e.0) (before end) agree es
-  where
-    agree : (e : ℕ × ℕ) → range_contains nat_cmp Unbounded (Excluded end) e.0 ≡ before end e
-    agree e =
-        elim (cases_order end e.0) [
-          | inl same ↦ ap (λ o. not (is_le o)) (sym (nat_cmp_is end e.0 Equal same)) ∙ sym (le-ltb e.0 end (omega (arith, same)))
-          | inr other ↦
-              elim other [
-                | inl less ↦ ap (λ o. not (is_le o)) (sym (nat_cmp_is end e.0 Less less)) ∙ sym (le-ltb e.0 end (omega (arith, less)))
-                | inr more ↦ ap (λ o. not (is_le o)) (sym (nat_cmp_is end e.0 Greater more)) ∙ sym (lt-ltb e.0 end more)
-              ]
-        ]
+in_range end es = grind (arith, nat_tests, filter_agree, cases_order)
 
 -- where there are none, none is met
 pub none_met : (x : Extent) (es : List (ℕ × ℕ)) → filter (before (x.addr + x.len)) es ≡ [] → list_any (meets x) (extents_of es) ≡ false
@@ -95,19 +67,13 @@ pub of_last : (P : Extent → Type 0) (end : ℕ) (es t : List (ℕ × ℕ)) (la
 of_last P end [] t last all is = absurd (omega (arith, ap length is, length-append t (last ∷ [])))
 of_last P end (e ∷ es) [] last all is =
     elim (cases_Bool (before end e)) [
-      | inl first ↦
-          let parts : e ∷ filter (before end) es ≡ last ∷ [] =
-          sym (first_in end e es first) ∙ is in
-          let same : e ≡ last = cc in
-          subst (λ f. P (extent f)) same (All-head P (extent e) (extents_of es) all)
+      | inl first ↦ grind (arith, first_in end e es first, P, All-head P (extent e) (extents_of es) all)
       | inr behind ↦ of_last P end es [] last (All-tail P (extent e) (extents_of es) all) (sym (left_out end e es behind) ∙ is)
     ]
 of_last P end (e ∷ es) (f ∷ t) last all is =
     elim (cases_Bool (before end e)) [
       | inl first ↦
-          let parts : e ∷ filter (before end) es ≡ f ∷ t ++ last ∷ [] =
-          sym (first_in end e es first) ∙ is in
-          of_last P end es t last (All-tail P (extent e) (extents_of es) all) cc
+          grind (arith, of_last P end es t last (All-tail P (extent e) (extents_of es) all), first_in end e es first, All-tail P (extent e) (extents_of es) all)
       | inr behind ↦ of_last P end es (f ∷ t) last (All-tail P (extent e) (extents_of es) all) (sym (left_out end e es behind) ∙ is)
     ]
 
@@ -121,13 +87,7 @@ pub last_met : (x : Extent) (es t : List (ℕ × ℕ)) (last : ℕ × ℕ) → I
 last_met x [] t last spread is = absurd (omega (arith, ap length is, length-append t (last ∷ [])))
 last_met x (e ∷ es) [] last spread is =
     elim (cases_Bool (before (x.addr + x.len) e)) [
-      | inl first ↦
-          let parts : e ∷ filter (before (x.addr + x.len)) es ≡ last ∷ [] =
-          sym (first_in (x.addr + x.len) e es first) ∙ is in
-          let same : e ≡ last = cc in
-          let none : filter (before (x.addr + x.len)) es ≡ [] = cc in
-          ap (λ b. meets x (extent e) || b) (none_met x es none) ∙ or_false (meets x (extent e)) ∙ meets_last x (extent e) spread.0 first
-          ∙ ap (λ (f : ℕ × ℕ). nat_lt (x.addr - f.0) f.1) same
+      | inl first ↦ grind (arith, nat_tests, first_in (x.addr + x.len) e es first, none_met x es, meets_last x (extent e) spread.0 first)
       | inr behind ↦
           ap (λ b. b || list_any (meets x) (extents_of es)) (not_met x e behind) ∙ last_met x es [] last spread.2 (sym (left_out (x.addr + x.len) e es behind) ∙ is)
     ]
@@ -135,25 +95,16 @@ last_met x (e ∷ es) [] last spread is =
     or_false : (b : Bool) → (b || false) ≡ b
     or_false true = refl
     or_false false = refl
-last_met x (e ∷ es) (f ∷ t) last spread is =
-    elim (cases_Bool (before (x.addr + x.len) e)) [
-      | inl first ↦
-          let parts : e ∷ filter (before (x.addr + x.len)) es ≡ f ∷ t ++ last ∷ [] =
-          sym (first_in (x.addr + x.len) e es first) ∙ is in
-          let more : filter (before (x.addr + x.len)) es ≡ t ++ last ∷ [] = cc in
-          let rest = last_met x es t last spread.2 more in
-          let some : 0 < last.1 = of_last (λ (b : Extent). 0 < b.len) (x.addr + x.len) es t last (bytes (extents_of es) spread.2) more in
-          let far : e.0 + e.1 ≤ last.0 = of_last (λ (b : Extent). e.0 + e.1 ≤ b.addr) (x.addr + x.len) es t last spread.1 more in
-          elim (cases_lt x.addr (e.0 + e.1)) [
-            | inl less ↦
-                let is_met : nat_lt (x.addr - last.0) last.1 ≡ true = lt-ltb (x.addr - last.0) last.1 (omega (arith, less, far, some)) in
-                ap (λ b. meets x (extent e) || b) (rest ∙ is_met) ∙ or_true (meets x (extent e)) ∙ sym is_met
-            | inr past ↦ ap (λ b. b || list_any (meets x) (extents_of es)) (and_left (nat_lt x.addr (e.0 + e.1)) (before (x.addr + x.len) e) (le-ltb x.addr (e.0 + e.1) past)) ∙ rest
-          ]
-      | inr behind ↦
-          ap (λ b. b || list_any (meets x) (extents_of es)) (not_met x e behind) ∙ last_met x es (f ∷ t) last spread.2 (sym (left_out (x.addr + x.len) e es behind) ∙ is)
-    ]
-  where
-    or_true : (b : Bool) → (b || true) ≡ true
-    or_true true = refl
-    or_true false = refl
+last_met x (e ∷ es) (f ∷ t) last spread is = grind (
+  arith,
+  nat_tests,
+  last_met x es t last spread.2,
+  last_met x es (f ∷ t) last spread.2,
+  first_in (x.addr + x.len) e es,
+  of_last (λ (b : Extent). 0 < b.len) (x.addr + x.len) es t last (bytes (extents_of es) spread.2),
+  bytes (extents_of es) spread.2,
+  of_last (λ (b : Extent). e.0 + e.1 ≤ b.addr) (x.addr + x.len) es t last spread.1,
+  and_left (nat_lt x.addr (e.0 + e.1)) (before (x.addr + x.len) e),
+  not_met x e,
+  left_out (x.addr + x.len) e es,
+)

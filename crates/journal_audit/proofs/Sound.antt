@@ -7,12 +7,12 @@ use Rattle.std.specs.Option.{option_or}
 use Rattle.std.proofs.lemmas.Bool.{and_parts, and_from, ltb-true, lt-ltb, leb-true, le-leb, eqb-true, eq-eqb, or_parts, not-true, false≢true}
 use Rattle.std.proofs.lemmas.List.Sums.{fold_push}
 use Rattle.std.proofs.lemmas.List.Recursion.{or_push}
+use Rattle.std.proofs.lemmas.Bool.Decides.{nat_tests}
 use Rattle.tc_units.specs.Units.{huge_bytes}
 use Rattle.tc_units.specs.Arena.{IsInArena}
 use Rattle.tc_units.specs.Classes.{length_of}
 use Rattle.tc_units.specs.declared.units.ThreadNo.{ThreadNo}
 use Rattle.tc_units.specs.declared.units.Label.{Label}
-use Rattle.tc_units.specs.declared.units.Addr.{Addr}
 use Rattle.tc_model.specs.declared.calls.Call.{Call}
 use Rattle.tc_model.specs.declared.calls.Call.TheVariants as call
 use Rattle.tc_model.specs.declared.answers.Answer.{Answer}
@@ -55,25 +55,16 @@ pub record IsSound (huge : ℕ) (round : ℕ → ℕ) (calls : List CallLine) : 
   pub distinct : (l m addr len len' : ℕ) → HasBlock calls l addr len → HasBlock calls m addr len' → l ≡ m
 
 pub sound_none : (huge : ℕ) (round : ℕ → ℕ) → IsSound huge round []
-sound_none huge round = record {
-  run = each_of_none (λ earlier (c : CallLine). IsAllowed huge round earlier c.call c.answer);
-  spread = tt;
-  stands = λ label addr len has. absurd (let wrong = has.answered in cc);
-  distinct = λ l m addr len len' has other. absurd (let wrong = has.answered in cc);
-}
+sound_none huge round = grind (arith, each_of_none (λ earlier (c : CallLine). IsAllowed huge round earlier c.call c.answer))
 
 -- a block that a label has after a call is one that it had, or the call's
 block_before : (o : Option Answer) (mine : Bool) (new block : Answer) → option_or o (cond mine (Some new) None) ≡ Some block
     → (o ≡ Some block) ⊎ ((mine ≡ true) × (new ≡ block))
-block_before old mine new block h = grind arith
+block_before o mine new block h = grind (arith)
 
 block_of : (calls : List CallLine) (c : CallLine) (label addr len : ℕ) → HasBlock (calls ++ c ∷ []) label addr len
     → HasBlock calls label addr len ⊎ ((allocates label c.call ≡ true) × (c.answer ≡ answer.Block (record { 0 = addr }) len))
-block_of calls c label addr len has =
-    elim (block_before (answer_to label calls) (allocates label c.call) c.answer (answer.Block (record { 0 = addr }) len) (sym (answer_push label calls c) ∙ has.answered)) [
-      | inl old ↦ inl (record { answered = old; kept = (or_parts (freed_in label calls) (frees label c.call) (sym (freed_push label calls c) ∙ has.kept)).0 })
-      | inr new ↦ inr new
-    ]
+block_of calls c label addr len has = grind (arith, nat_tests, block_before, answer_push, freed_push)
 
 module _ (huge : ℕ) (round : ℕ → ℕ) (calls : List CallLine) (sound : IsSound huge round calls) where
   goes_on : (c : CallLine) → IsAllowed huge round calls c.call c.answer → IsBlockRun huge round (calls ++ c ∷ [])
@@ -107,14 +98,7 @@ module _ (huge : ℕ) (round : ℕ → ℕ) (calls : List CallLine) (sound : IsS
         false≢true (sym f.apart ∙ they_meet block (record { addr = a; len = n }) (omega (arith, same, f.some)) (omega (arith, same, free.inside.some)))
 
     of_label : (l a n : ℕ) → HasBlock (calls ++ line ∷ []) l a n → HasBlock calls l a n ⊎ ((label.0 ≡ l) × (addr ≡ a) × (len ≡ n))
-    of_label l a n has =
-        elim (block_of calls line l a n has) [
-          | inl before ↦ inl before
-          | inr mine ↦
-              let whole = mine.1 in
-              let place : record { 0 = addr } ≡ record { 0 = a } = cc in
-              inr (eqb-true label.0 l mine.0, ap (λ (x : Addr). x.0) place, cc)
-        ]
+    of_label l a n has = grind (arith, nat_tests, block_of calls line l a n has)
 
     with_one : IsSound huge round (calls ++ line ∷ [])
     with_one =
@@ -126,9 +110,7 @@ module _ (huge : ℕ) (round : ℕ → ℕ) (calls : List CallLine) (sound : IsS
           stands = λ l a n has. ap (find (λ b. b.addr == a)) same ∙
               elim (of_label l a n has) [
                 | inl before ↦ find_old block a (blocks_after calls) (elsewhere l a n before) ∙ sound.stands l a n before
-                | inr mine ↦
-                    (let Finds : ℕ → ℕ → Type 0 = λ x k. find (λ b. b.addr == x) (with_block block (blocks_after calls)) ≡ Some (record { addr = x; len = k }) in
-                    subst (λ (x : ℕ). Finds x n) mine.1 (subst (Finds addr) mine.2 (find_new block (blocks_after calls) none)))
+                | inr mine ↦ grind (arith, find_new block (blocks_after calls) none)
               ];
           distinct = λ l m a n k has other.
               elim (of_label l a n has) [
@@ -186,9 +168,7 @@ sound_push plan calls thread (Free label (Some addr)) (call.Free l) sound named 
     let at = block_at addr (answer_to l.0 calls) parts.1 in
     without_one plan.huge (length_of plan.rows) calls sound thread l addr at.0 (record { answered = at.1; kept = not-true (freed_in l.0 calls) parts.0 })
 sound_push plan calls thread (Free label None) (call.Free l) sound named keeps =
-    let parts = and_parts (not (freed_in l.0 calls)) (is_null (answer_to l.0 calls)) keeps.own in
-    quiet plan.huge (length_of plan.rows) calls sound (record { thread = thread; call = call.Free l; answer = answer.FreedNull })
-    (record { answered = null_at (answer_to l.0 calls) parts.1; once = not-true (freed_in l.0 calls) parts.0 }) refl (λ label addr len mine is. false≢true mine)
+    grind (arith, nat_tests, quiet plan.huge (length_of plan.rows) calls sound, call.Free l, null_at (answer_to l.0 calls), not-true (freed_in l.0 calls))
 sound_push plan calls thread (Release pages) (call.Release wanted) sound named keeps =
     quiet plan.huge (length_of plan.rows) calls sound (record { thread = thread; call = call.Release wanted; answer = answer.Released pages }) tt refl (λ label addr len mine is. false≢true mine)
 sound_push plan calls thread (Drain cpu (drained.Objects n)) (call.Drain at) sound named keeps =

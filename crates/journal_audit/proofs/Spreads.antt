@@ -1,9 +1,8 @@
 -- Blocks that are apart, with one more and with one taken away.
-use Rattle.std.proofs.Common.{◌≡◌, ℕ, ◌+◌, ◌<◌, ◌≤◌, true, false, not, nat_lt, eqb, cond, List, [], ◌∷◌, Some, None, refl, sym, ap, ◌∙◌, subst, inl, inr, arith}
-use Rattle.std.proofs.Common.{◌⊎◌}
+use Rattle.std.proofs.Common.{◌≡◌, ℕ, ◌+◌, ◌<◌, ◌≤◌, true, false, not, nat_lt, eqb, List, [], ◌∷◌, Some, None, refl, sym, subst, inl, inr, arith, ◌⊎◌}
 use Rattle.std.specs.Prelude.{◌==◌, All, find}
 use Rattle.std.specs.List.{list_any}
-use Rattle.std.proofs.lemmas.Bool.{cases_Bool, cases_eq, and_cases, and_from, ltb-true, ltb-false, lt-ltb, eqb-true, eq-eqb, ne_eqb, or_parts, cond-true, cond-false, false≢true}
+use Rattle.std.proofs.lemmas.Bool.{cases_Bool, and_cases, and_from, ltb-true, ltb-false, lt-ltb, eq-eqb, ne_eqb, or_parts, cond-true, cond-false}
 use Rattle.std.proofs.lemmas.Bool.Decides.{nat_tests}
 use Rattle.std.proofs.lemmas.List.Elements.{All-nil, All-cons, All-filter, All-weaker}
 use Rattle.tc_units.proofs.SortedFacts.{All-with_item}
@@ -41,10 +40,7 @@ pub spread_without : (addr : ℕ) (bs : List Extent) → IsSpread bs → IsSprea
 spread_without addr [] spread = tt
 spread_without addr (b ∷ bs) spread =
     let rest = spread_without addr bs spread.2 in
-    elim (cases_Bool (eqb b.addr addr)) [
-      | inl here ↦ subst IsSpread (sym (ap (λ t. cond (not t) (b ∷ without_block addr bs) (without_block addr bs)) here)) rest
-      | inr other ↦ rw other (spread.0, All-filter (λ (c : Extent). not (eqb c.addr addr)) (λ (c : Extent). b.addr + b.len ≤ c.addr) bs spread.1, rest)
-    ]
+    grind (arith, nat_tests, All-filter (λ (c : Extent). not (eqb c.addr addr)) (λ (c : Extent). b.addr + b.len ≤ c.addr) bs spread.1)
 
 -- what is found at an address begins there and has a byte, and what meets none doesn't meet it
 pub record IsFound (x : Extent) (addr : ℕ) (b : Extent) : Type 0 where
@@ -55,25 +51,12 @@ pub record IsFound (x : Extent) (addr : ℕ) (b : Extent) : Type 0 where
 pub found : (x : Extent) (addr : ℕ) (bs : List Extent) (b : Extent) → IsSpread bs → list_any (meets x) bs ≡ false
     → find (λ c. c.addr == addr) bs ≡ Some b → IsFound x addr b
 found x addr [] b spread apart is = absurd (cc)
-found x addr (c ∷ cs) b spread apart is =
-    let parts : (meets x c ≡ false) × (list_any (meets x) cs ≡ false) = or_parts (meets x c) (list_any (meets x) cs) apart in
-    elim (cases_Bool (eqb c.addr addr)) [
-      | inl here ↦
-          let same : Some c ≡ Some b = sym (cond-true (eqb c.addr addr) (Some c) (find (λ y. y.addr == addr) cs) here) ∙ is in
-          let e : c ≡ b = cc in
-          subst (IsFound x addr) e (record { begins = eqb-true c.addr addr here; some = spread.0; apart = parts.0 })
-      | inr other ↦ found x addr cs b spread.2 parts.1 (sym (cond-false (eqb c.addr addr) (Some c) (find (λ y. y.addr == addr) cs) other) ∙ is)
-    ]
+found x addr (c ∷ cs) b spread apart is = grind (arith, nat_tests, found x addr cs b spread.2)
 
 -- no block begins at the address of one that meets none
 pub none_begins : (x : Extent) (bs : List Extent) → 0 < x.len → list_any (meets x) bs ≡ false → IsSpread bs → find (λ c. c.addr == x.addr) bs ≡ None
 none_begins x [] some apart spread = refl
-none_begins x (b ∷ bs) some apart spread =
-    let parts : (meets x b ≡ false) × (list_any (meets x) bs ≡ false) = or_parts (meets x b) (list_any (meets x) bs) apart in
-    elim (cases_eq b.addr x.addr) [
-      | inl same ↦ absurd (false≢true (sym parts.0 ∙ they_meet x b (omega (arith, same, spread.0)) (omega (arith, same, some))))
-      | inr other ↦ cond-false (eqb b.addr x.addr) (Some b) (find (λ c. c.addr == x.addr) bs) (ne_eqb b.addr x.addr other) ∙ none_begins x bs some parts.1 spread.2
-    ]
+none_begins x (b ∷ bs) some apart spread = grind (arith, nat_tests, none_begins x bs some, they_meet x b)
 
 -- the block that is added is found, where none begins at its address, and each other one is found as before
 pub find_new : (x : Extent) (bs : List Extent) → find (λ b. b.addr == x.addr) bs ≡ None → find (λ b. b.addr == x.addr) (with_block x bs) ≡ Some x

@@ -1,6 +1,6 @@
 -- The text of a run is read again: its lines of calls tell the calls that it was printed of.
-use Rattle.std.proofs.Common.{◌≡◌, ℕ, ◌&&◌, ◌==◌, if◌then◌else◌, true, false, List, [], ◌∷◌, ◌++◌, length, map, cond, codes, decimal, Some, None}
-use Rattle.std.proofs.Common.{refl, sym, ap, ◌∙◌, ◌+◌, suc, not, take, subst, arith, append_assoc}
+use Rattle.std.proofs.Common.{◌≡◌, ℕ, ◌&&◌, ◌==◌, if◌then◌else◌, true, false, List, [], ◌∷◌, ◌++◌, length, map, cond, codes, decimal, Some, None, refl, sym}
+use Rattle.std.proofs.Common.{ap, ◌∙◌, ◌+◌, suc, not, take, subst, arith, append_assoc}
 use Rattle.std.specs.List.{All, AllZip, before_first, enumerate_from, position_or_len}
 use Rattle.std.proofs.lemmas.Bool.{eq-eqb, false_from_ne_true}
 use Rattle.std.proofs.lemmas.List.{map-id}
@@ -9,7 +9,6 @@ use Rattle.std.proofs.lemmas.Slice.Eq.{bytes_eq-Decides}
 use Rattle.tc_units.specs.Classes.{length_of}
 use Rattle.tc_units.specs.declared.units.ThreadNo.{ThreadNo}
 use Rattle.tc_units.specs.declared.rows.RowKind.{RowKind}
-use Rattle.tc_units.specs.declared.rows.RowKind.TheVariants as kind
 use Rattle.tc_units.specs.declared.rows.RowView.{RowView}
 use Rattle.tc_model.specs.declared.calls.Call.{Call}
 use Rattle.tc_model.specs.declared.calls.Call.TheVariants as call
@@ -24,10 +23,7 @@ use Rattle.trace_text.proofs.Printed.{IsPrinted, word_is_field, printed_append, 
 use Rattle.usage_report.specs.Report as report
 use Rattle.usage_report.specs.Report.{letter_of, named_words, answer_words, call_line, fragmentation, summary_of, kind_word, measures, row_line, text_of}
 use Rattle.usage_report.specs.Report.{IsSmall, NamesSmall, AnswersSmall, IsTellable}
-use Rattle.journal_audit.specs.declared.told.Drained.TheVariants as drained
-use Rattle.journal_audit.specs.declared.told.Resized.TheVariants as resized
 use Rattle.journal_audit.specs.declared.told.Act.{Act}
-use Rattle.journal_audit.specs.declared.told.Act.TheVariants as act
 use Rattle.journal_audit.specs.Forms.{number, told_by, is_none_word, names, answer_of}
 use Rattle.journal_audit.specs.Rules.{Plan, ends, journal_of}
 use Rattle.journal_audit.specs.Legal.{Tells}
@@ -36,9 +32,7 @@ use Rattle.journal_audit.proofs.LinesBehind.{printed_stays}
 
 -- What is printed.
 printed : (first : List ℕ) (others : List (List ℕ)) → IsField first → All IsField others → IsPrinted (report.line_of first others) ((first ∷ others) ∷ [])
-printed first others own rest =
-    let words = printed_line (λ word. word) first others own rest in
-    subst (λ (fields : List (List ℕ)). IsPrinted (report.line_of first others) ((first ∷ fields) ∷ [])) (map-id others) words
+printed first others own rest = grind (arith, printed_line (λ word. word) first others own rest, map-id others)
 
 one : (field : List ℕ) → IsField field → All IsField (field ∷ [])
 one field is = All-cons IsField field [] is (All-nil IsField)
@@ -56,11 +50,7 @@ letter_is_field : (c : Call) → IsField (letter_of c)
 letter_is_field x0 = grind (arith)
 
 named_are_fields : (c : Call) → All IsField (named_words c)
-named_are_fields (call.Malloc label size) = one (decimal label.0) (decimal_is_field label.0)
-named_are_fields (call.Free label) = one (decimal label.0) (decimal_is_field label.0)
-named_are_fields (call.Release pages) = All-nil IsField
-named_are_fields (call.Drain cpu) = one (decimal cpu.0) (decimal_is_field cpu.0)
-named_are_fields (call.Resize cpu k most) = All-cons IsField (decimal cpu.0) (decimal k.0 ∷ decimal most ∷ []) (decimal_is_field cpu.0) (decimals k.0 most)
+named_are_fields c = grind (arith, one, decimal_is_field, All-nil, All-cons, decimals)
 
 answer_is_fields : (a : Answer) → All IsField (answer_words a)
 answer_is_fields (answer.Block addr len) = decimals addr.0 len
@@ -83,10 +73,7 @@ call_printed c = grind (arith, answer_is_fields, decimal, decimal_is_field, lett
 
 -- the lines behind those of calls: the summary, and those of hugepages
 kind_is_field : (k : RowKind) → IsField (kind_word k)
-kind_is_field kind.Free = word_is_field (codes "free") refl
-kind_is_field kind.Filler = word_is_field (codes "filler") refl
-kind_is_field kind.Run = word_is_field (codes "run") refl
-kind_is_field kind.Region = word_is_field (codes "region") refl
+kind_is_field k = grind (arith)
 
 abbrev row_fields : ℕ × RowView → List (List ℕ)
 row_fields numbered = codes "h" ∷ decimal numbered.0 ∷ kind_word numbered.1.kind ∷ measures numbered.1
@@ -154,10 +141,7 @@ reads : (n : ℕ) → IsSmall n → number (decimal n) ≡ Some n
 reads n small = number_of_decimal 18446744073709551615 n (omega arith) small
 
 no_none : (n : ℕ) → IsSmall n → is_none_word (decimal n) ≡ false
-no_none n small = false_from_ne_true _ (λ yes_.
-    let same : decimal n ≡ codes "none" = (bytes_eq-Decides (decimal n) (codes "none")).0 yes_ in
-    let read : None ≡ Some n = sym (ap number same) ∙ reads n small in
-    cc)
+no_none n small = grind (arith, false_from_ne_true, bytes_eq-Decides (decimal n) (codes "none"), reads n small)
 
 names_resize : (cpu k cap : ℕ) → ((cpu == cpu) && (k == k) && (cap == cap)) ≡ true
 names_resize cpu k cap = rw (eq-eqb cpu cpu refl, eq-eqb k k refl, eq-eqb cap cap refl) refl
@@ -175,22 +159,7 @@ module _ (huge : ℕ) (round : ℕ → ℕ) (earlier : List CallLine) (t : Threa
   same n = eq-eqb n n refl
 
   tells : (c : Call) (a : Answer) → IsAllowed huge round earlier c a → NamesSmall c → AnswersSmall a → Tells (told_by (call_fields (line t c a))) (line t c a)
-  tells (call.Malloc label size) (answer.Block addr len) allowed named said = grind (arith, reads, same, says)
-  tells (call.Malloc label size) answer.NoBlock allowed named said = says _ _ (act.Malloc label.0 None) (rw (reads t.0 small, reads label.0 named) refl) (same label.0) refl
-  tells (call.Free label) (answer.Freed addr) allowed named said =
-      says _ _ (act.Free label.0 (Some addr.0)) (rw (reads t.0 small, reads label.0 named, no_none addr.0 said, reads addr.0 said) refl) (same label.0) refl
-  tells (call.Free label) answer.FreedNull allowed named said = says _ _ (act.Free label.0 None) (rw (reads t.0 small, reads label.0 named) refl) (same label.0) refl
-  tells (call.Release wanted) (answer.Released pages) allowed named said = says _ _ (act.Release pages) (rw (reads t.0 small, reads pages said) refl) refl refl
-  tells (call.Drain cpu) (answer.Drained objects) allowed named said =
-      says _ _ (act.Drain cpu.0 (drained.Objects objects)) (rw (reads t.0 small, reads cpu.0 named, reads objects said) refl) (same cpu.0) refl
-  tells (call.Drain cpu) (answer.Busy owner) allowed named said =
-      says _ _ (act.Drain cpu.0 (drained.Busy owner.0)) (rw (reads t.0 small, reads cpu.0 named, reads owner.0 said) refl) (same cpu.0) refl
-  tells (call.Resize cpu k most) (answer.Busy owner) allowed named said = grind (arith, names_resize, reads, says)
-  tells (call.Resize cpu k most) answer.CapSet allowed named said =
-      says _ _ (act.Resize cpu.0 k.0 most resized.Set) (rw (reads t.0 small, reads cpu.0 named.0, reads k.0 named.1, reads most named.2) refl) (names_resize cpu.0 k.0 most) refl
-  tells (call.Resize cpu k most) (answer.OverLimit sum) allowed named said = grind (arith, names_resize, reads, says)
-  tells (call.Resize cpu k most) (answer.OverStatic limit) allowed named said = grind (arith, names_resize, reads, says)
-  tells c a allowed named said = absurd allowed
+  tells c a allowed named said = grind (arith, reads, same, says, no_none, names_resize)
 
 module _ (plan : Plan) (calls : List CallLine) (run : IsBlockRun plan.huge (length_of plan.rows) calls) where
   all_tell : (earlier later : List CallLine) → earlier ++ later ≡ calls → All IsTellable later → AllZip Tells (map told_by (map call_fields later)) later

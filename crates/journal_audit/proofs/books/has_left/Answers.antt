@@ -1,8 +1,9 @@
-use Rattle.std.proofs.Common.{◌≡◌, ℕ, ◌<◌, false, nat_lt, List, [], length, refl, sym, ap, subst, inl, inr, arith}
+use Rattle.std.proofs.Common.{◌≡◌, ℕ, ◌<◌, nat_lt, List, [], length, refl, sym, ap, arith}
 use Rattle.std.specs.Prelude.{slice_index, get_or}
 use Rattle.std.specs.Option.{option_map_or}
-use Rattle.std.proofs.lemmas.Bool.{cases_eq, lt-ltb, le-ltb}
+use Rattle.std.proofs.lemmas.Bool.{lt-ltb}
 use Rattle.std.proofs.lemmas.Option.{slice_get_read}
+use Rattle.std.proofs.lemmas.Bool.Decides.{nat_tests}
 use Rattle.tc_model.specs.declared.calls.Script.{Script}
 use Rattle.journal_audit.specs.Rules.{script_at}
 use Rattle.journal_audit.proofs.Threads.{any_in, none_in}
@@ -22,16 +23,7 @@ returns-then-done-thread c =
     sym (any_in (λ u. nat_lt (slice_index c.args.done.now u) (length (script_at c.args.scripts.now u))) (length c.args.scripts.now) t there (lt-ltb _ (length (script_at c.args.scripts.now t)) less))
 
 pub loop-thread-preserved : goal.loop-thread-preserved
-loop-thread-preserved c k less =
-    let t = c.loop-thread.thread in
-    let there : t < length c.args.scripts.now = omega arith in
-    let calls = script_there c.args.scripts.now t c.index-scripts-thread.result there c.index-scripts-thread.is in
-    let here = le-ltb (slice_index c.args.done.now t) (length (script_at c.args.scripts.now t))
-    (omega (arith, c.if-done-thread.false, ap length c.as_slice.ensures, ap (λ (s : Script). length s.calls) c.index-scripts-thread.is, ap length calls)) in
-    elim (cases_eq k t) [
-      | inl same ↦ subst (λ u. nat_lt (slice_index c.args.done.now u) (length (script_at c.args.scripts.now u)) ≡ false) (sym same) here
-      | inr other ↦ c.loop-thread.invariant k (omega (arith, less, other))
-    ]
+loop-thread-preserved c k less = grind (arith, nat_tests, script_there)
 
 pub returns : goal.returns
 returns c = sym (none_in (λ u. nat_lt (slice_index c.args.done.now u) (length (script_at c.args.scripts.now u))) 0 (length c.args.scripts.now) (λ k less. c.loop-thread.invariant k (omega arith)))

@@ -1,5 +1,6 @@
 use Rattle.std.proofs.Common.{◌≡◌, ◌+◌, [], ◌∷◌, ◌++◌, filter, nat_lt, sym, ap, ◌∙◌}
 use Rattle.std.specs.List.{list_any}
+use Rattle.std.proofs.Common.{arith}
 use Rattle.tc_model.specs.Blocks.{Extent, meets}
 use Rattle.journal_audit.proofs.LiveFacts.{before, in_range, none_met, last_met}
 use Rattle.journal_audit.proofs.live.Live.meets.Goals as goal
@@ -14,9 +15,4 @@ returns-in-Some c =
     ∙ ap (list_any (meets x)) c.self.view_is
 
 pub returns-in-None : goal.returns-in-None
-returns-in-None c =
-    let x : Extent = record { addr = c.args.addr; len = c.args.len } in
-    let es = c.self.inside.lens.entries in
-    let none : filter (before (c.args.addr + c.args.len)) es ≡ [] =
-    sym (in_range (c.args.addr + c.args.len) es) ∙ (sym (c.range.ensures.between tt) ∙ c.in-None.ensures.steps.0) in
-    sym (none_met x es none) ∙ ap (list_any (meets x)) c.self.view_is
+returns-in-None c = grind (arith, before (c.args.addr + c.args.len), in_range (c.args.addr + c.args.len), c.range.ensures.between tt, none_met)

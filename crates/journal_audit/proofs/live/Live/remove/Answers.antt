@@ -1,4 +1,4 @@
-use Rattle.std.proofs.Common.{ap, ◌∙◌}
+use Rattle.std.proofs.Common.{ap, ◌∙◌, arith}
 use Rattle.tc_model.specs.Blocks.{without_block}
 use Rattle.journal_audit.specs.Spread.{extents_of}
 use Rattle.journal_audit.proofs.LiveFacts.{removed}
@@ -6,9 +6,7 @@ use Rattle.journal_audit.proofs.Spreads.{spread_without}
 use Rattle.journal_audit.proofs.live.Live.remove.Goals as goal
 
 pub invariant_of-self : goal.invariant_of-self
-invariant_of-self c =
-    rw (ap extents_of c.remove.ensures.entries ∙ removed c.self.inside.lens.entries c.args.addr c.self.invariant)
-    (spread_without c.args.addr (extents_of c.self.inside.lens.entries) c.self.invariant)
+invariant_of-self c = grind (arith, removed, spread_without)
 
 pub returns : goal.returns
 returns c =
