@@ -1,7 +1,7 @@
 -- The bytes of a cache, as objects come and go.
 use Rattle.std.proofs.Common.{◌≡◌, ℕ, ◌+◌, ◌-◌, ◌*◌, ◌/◌, ◌<◌, ◌≤◌, List, [], ◌∷◌, length, map, All, refl, sym, ap, ◌∙◌, min, arith, get_or}
 use Rattle.std.specs.List.{slice_set}
-use Rattle.std.proofs.Math.Nat.{mul_comm, mul-le-mul_left, div-mul-le_self, mod-lt, div-add-mod}
+use Rattle.std.proofs.Math.Nat.{mul_comm}
 use Rattle.std.proofs.lemmas.List.Sums.{sum_by-set, sum_by-cons, get_or-le-sum_by}
 use Rattle.std.proofs.lemmas.List.Elements.{All-set, All-get_or, All-map}
 use Rattle.tc_units.specs.declared.units.Addr.{Addr}
@@ -12,10 +12,6 @@ use Rattle.thread_cache.specs.Cache.{Stack, bytes_in, bytes_of, with_objects, em
 times : (size n m k : ℕ) → n ≡ m + k → size * n ≡ size * m + k * size
 times size n m k is = grind (arith, mul_comm)
 
--- the next multiple is above
-pub above_quotient : (n m : ℕ) → 0 < m → n < (n / m) * m + m
-above_quotient n m some = omega (arith, div-add-mod n m, mod-lt n {m = m} some, mul_comm m (n / m))
-
 module _ (stacks : List Stack) (limit counted k : ℕ) (old new : Stack) (objects : List Addr) (low : k < length stacks) (at : old ≡ get_or stacks k old)
     (is : IsCounted stacks limit counted) (made : new ≡ with_objects old objects) where
   -- a class has other objects, and the count is right for them
@@ -23,46 +19,27 @@ module _ (stacks : List Stack) (limit counted k : ℕ) (old new : Stack) (object
   recounted now right within =
       let size : new.size ≡ (get_or stacks k old).size = ap (λ (s : Stack). s.size) made ∙ ap (λ (s : Stack). s.size) at in
       let some = All-get_or (λ (s : Stack). 0 < s.size) stacks k old low is.sizes in
-      let counted_is = is.bytes in
-      record {
-        bytes = omega (arith, right, counted_is, ap bytes_in made, ap bytes_in at, sum_by-set bytes_in stacks k new old low);
-        within = within;
-        sizes = All-set (λ (s : Stack). 0 < s.size) stacks k new (omega (arith, size, some)) is.sizes;
-      }
+      grind (arith, sum_by-set bytes_in stacks k new old low, All-set (λ (s : Stack). 0 < s.size) stacks k new)
 
   -- so many objects of it go
   pub less : (n size : ℕ) → length old.objects ≡ length objects + n → size ≡ old.size
       → (n * size ≤ counted) × IsCounted (slice_set stacks k new) limit (counted - n * size)
   less n size went sized =
-      let t = times old.size (length old.objects) (length objects) n went in
-      let by : n * size ≡ n * old.size = ap (λ m. n * m) sized in
-      let counted_is = is.bytes in
-      let within = is.within in
-      let enough : n * size ≤ counted = omega (arith, t, by, ap bytes_in at, get_or-le-sum_by bytes_in stacks k old low, counted_is) in
-      (enough, recounted (counted - n * size) (omega (arith, t, by, enough)) (omega (arith, within)))
+      grind (arith, times old.size (length old.objects) (length objects) n went, get_or-le-sum_by bytes_in stacks k old low, recounted (counted - n * size))
 
   -- so many come, which fit
   pub more : (n size : ℕ) → length objects ≡ length old.objects + n → size ≡ old.size → counted + n * size ≤ limit
       → IsCounted (slice_set stacks k new) limit (counted + n * size)
-  more n size came sized fits =
-      let t = times old.size (length objects) (length old.objects) n came in
-      let by : n * size ≡ n * old.size = ap (λ m. n * m) sized in
-      recounted (counted + n * size) (omega (arith, t, by)) fits
+  more n size came sized fits = grind (arith, times old.size (length objects) (length old.objects) n came, recounted (counted + n * size))
 
 -- a multiple that is no more than the quotient fits
 pub fits : (limit counted n size : ℕ) → counted ≤ limit → n ≤ (limit - counted) / size → counted + n * size ≤ limit
-fits limit counted n size within few =
-    let q : ℕ = (limit - counted) / size in
-    omega (arith, mul-le-mul_left size few, mul_comm size n, mul_comm size q, div-mul-le_self (limit - counted) size, within)
+fits limit counted n size within few = grind (arith)
 
 -- and where fewer come, one more doesn't
 pub next_is_over : (limit counted n size room : ℕ) → counted ≤ limit → 0 < size → n ≡ min ((limit - counted) / size) room → n < room
     → limit < counted + n * size + size
-next_is_over limit counted n size room within some is below =
-    let q : ℕ = (limit - counted) / size in
-    let e : n ≡ q = omega (arith, is, below) in
-    let by : n * size ≡ q * size = ap (λ m. m * size) e in
-    omega (arith, by, above_quotient (limit - counted) size some, within)
+next_is_over limit counted n size room within some is below = grind (arith)
 
 -- an empty cache
 pub none : (rows : List ClassRow) → bytes_of (map empty_stack rows) ≡ 0

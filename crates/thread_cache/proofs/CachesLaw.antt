@@ -1,33 +1,27 @@
 -- The caches of threads meet the law of a front-end.
-use Rattle.std.proofs.Common.{◌≡◌, ℕ, zero, suc, ◌+◌, ◌*◌, ◌%◌, ◌<◌, ◌≤◌, ltb, get_or, List, [], ◌∷◌, length, map, Some, refl, sym, ap, ◌∙◌, subst, inl, inr, arith}
+use Rattle.std.proofs.Common.{◌≡◌, ℕ, zero, suc, ◌+◌, ◌*◌, ◌%◌, ◌<◌, ◌≤◌, get_or, List, [], ◌∷◌, length, map, Some, refl, sym, ap, ◌∙◌, subst, inl, inr, arith}
 use Rattle.std.specs.Prelude.{slice_get, slice_set}
 use Rattle.std.specs.List.{range_with_len}
 use Rattle.std.proofs.Math.Nat.{mul_comm, mul-le-mul_left}
-use Rattle.std.proofs.lemmas.Bool.{cond_both}
 use Rattle.std.proofs.lemmas.Option.{slice_get-get_or}
 use Rattle.std.proofs.lemmas.List.{length-set, length-replicate}
 use Rattle.std.proofs.lemmas.List.Elements.{All-set, All-replicate}
 use Rattle.std.proofs.lemmas.List.Folds.{sum_by-replicate}
-use Rattle.tc_units.specs.declared.units.Addr.{Addr}
 use Rattle.tc_units.specs.declared.spans.ClassRow.{ClassRow}
 use Rattle.tc_model.specs.declared.config.Config.{Config}
 use Rattle.rseq_core.specs.declared.regs.Regs.{Regs}
 use Rattle.size_classes.specs.Rows.{sizes_of}
 use Rattle.holdings.specs.{Runs.objects_at, Books.no_class}
 use Rattle.holdings.proofs.Sums.{of_all, shift, least}
-use Rattle.call_steps.specs.declared.step.Asking.{Asking}
-use Rattle.call_steps.specs.declared.step.Serving.{Serving}
-use Rattle.call_steps.specs.declared.step.Freeing.{Freeing}
-use Rattle.call_steps.specs.declared.step.Next.TheVariants as next
 use Rattle.call_steps.specs.Fronts.{AreEntries}
 use Rattle.call_steps.specs.Shapes.{AreRows}
 use Rattle.alloc_rules.specs.Standings.{Here, Later, Away, Standing, stand, at_next, regs_next}
 use Rattle.alloc_rules.specs.FrontLaw.{IsReady, FitsAt, RefusesAs, idle, with_hand}
 use Rattle.thread_cache.specs.declared.row.CacheRow.{CacheRow}
-use Rattle.thread_cache.specs.declared.row.CacheRow.TheVariants.{Pop, Stock, Add, Ask, Raise, AddAgain, Trim}
+use Rattle.thread_cache.specs.declared.row.CacheRow.TheVariants.{Pop, Stock, Add}
 use Rattle.thread_cache.specs.declared.seat.CacheSeat.{CacheSeat}
-use Rattle.thread_cache.specs.Cache.{Stack, Cache, empty_stack, no_stack, objects_of, opened}
-use Rattle.thread_cache.specs.Rows.{about_row, cache_place, popped, after_stock, after_add, after_again, cache_acts, cache_calls, cache_refuses, cache_front}
+use Rattle.thread_cache.specs.Cache.{Stack, Cache, empty_stack, no_stack, opened}
+use Rattle.thread_cache.specs.Rows.{about_row, cache_place, cache_acts, cache_calls, cache_refuses, cache_front}
 use Rattle.thread_cache.specs.Fits.{FitsRow, cache_fits}
 use Rattle.thread_cache.specs.Holds.{given_in, given_of, HandFor, limit_of, IsSeated, IsCacheOf, CachesHold}
 use Rattle.thread_cache.specs.Laws.{AreCacheLimits, CachesAreLawful}
@@ -47,22 +41,6 @@ none_first n zero (row ∷ rows) = refl
 none_first n (suc k) (row ∷ rows) = none_first n k rows
 
 -- no row decides a call with an answer of its own
-pops_no : (p : Cache) (g : Regs) (a : Asking) (xs : List Addr) → RefusesAs cache_refuses (Pop a) (popped p g a xs).2
-pops_no p g a [] = tt
-pops_no p g a (x ∷ xs) = tt
-
-stocks_no : (s : Serving) (xs : List Addr) → RefusesAs cache_refuses (Stock s) (after_stock xs s)
-stocks_no s [] = tt
-stocks_no s (x ∷ xs) = tt
-
-adds_no : (caches : ℕ) (f : Freeing) (xs : List Addr) → RefusesAs cache_refuses (Add f) (after_add caches xs f)
-adds_no caches f [] = tt
-adds_no caches f (x ∷ xs) = cond_both (ltb 1 caches) (next.Row (Ask f)) (next.Row (Trim f)) (RefusesAs cache_refuses (Add f)) (λ e. tt) (λ e. tt)
-
-again_no : (f : Freeing) (xs : List Addr) → RefusesAs cache_refuses (AddAgain f) (after_again xs f)
-again_no f [] = tt
-again_no f (x ∷ xs) = tt
-
 refuses : (rows : List ClassRow) (p : Cache) (v : CacheSeat) (g : Regs) (row : CacheRow) → RefusesAs cache_refuses row (cache_acts rows p v g row).next
 refuses rows p v g x4 = grind (arith)
 
@@ -110,10 +88,7 @@ module _ (rows : List ClassRow) (c : Config) where
       record {
         many = length-set ps i q ∙ h.many;
         caches = All-set (IsCacheOf rows) ps i q part h.caches;
-        threads = λ u x is. (elim (set_once us t s new u x own is) [
-          | inl a ↦ subst (λ j. IsSeated c j x) (sym a.0) (subst (IsSeated c t) a.1 sits)
-          | inr there ↦ h.threads u x there
-        ]);
+        threads = grind (arith, set_once us t s new, h.threads);
         limits = omega (arith, h.limits, shift limit_of ps i p q at, shift given_of us t s new own, same);
       }
 
@@ -126,9 +101,7 @@ module _ (rows : List ClassRow) (c : Config) where
         record {
           many = length-replicate c.threads p;
           caches = All-replicate (IsCacheOf rows) c.threads p (record { sizes = sizes_first rows; within = omega (arith, facts.none rows) });
-          threads = λ t s at. (let own : ℕ = t % c.threads in
-              subst (IsSeated c t) (made_at f threads t s at)
-              (record { own = refl; caches = refl; victim = next_low c.threads own limits.threads; apart = next_apart c.threads own; hand = tt }));
+          threads = grind (arith, made_at f threads, next_low c.threads, next_apart c.threads);
           limits = omega (arith, sum_by-replicate limit_of c.threads p, sum_none given_of f (range_with_len 0 threads) (λ k. refl));
         }
 
@@ -139,18 +112,7 @@ module _ (rows : List ClassRow) (c : Config) where
     -- and an act there fits
     fits_row : (t : ℕ) (p : Cache) (g : Regs) (row : CacheRow) → IsReady (cache_front rows c) t g (about_row row) → HandFor g row
         → p.limit + given_in row ≤ c.threads * c.percpu → FitsRow rows p g row
-    fits_row t p g (Pop a) ready hand sum = omega (arith, ready.room, ap length ready.hand.1)
-    fits_row t p g (Stock s) ready hand sum = omega (arith, ready.hand)
-    fits_row t p g (Add f) ready hand sum = omega (arith, ap length hand)
-    fits_row t p g (Ask f) ready hand sum = tt
-    fits_row t p g (Raise f n) ready hand sum =
-        let most = limits.percpu in
-        let by = mul-le-mul_left c.percpu limits.few in
-        omega (arith, sum, mul_comm c.threads c.percpu, by, most)
-    fits_row t p g (AddAgain f) ready hand sum = omega (arith, ap length hand)
-    fits_row t p g (Trim f) ready hand sum =
-        let row = are.each g.class.0 no_class ready.class in
-        record { class = ready.class; some = row.batch; room = omega (arith, row.few, ready.room, ap length hand) }
+    fits_row t p g row ready hand sum = grind (arith, mul-le-mul_left, mul_comm)
 
     module _ (n : ℕ) (ps : List Cache) (us : List (Standing CacheSeat CacheRow)) (t : ℕ) (v : CacheSeat) (g : Regs) (count : ℕ) (row : CacheRow)
         (h : CachesHold rows c n ps us) (own : slice_get us t ≡ Some (stand v g count (Here row)))
@@ -174,15 +136,7 @@ module _ (rows : List ClassRow) (c : Config) where
           let i : ℕ = cache_place v row in
           let d : Cache = opened rows 0 in
           let at = slice_get-get_or ps i d (omega (arith, place_low t v row seat.own seat.victim, h.many)) in
-          record {
-            part = get_or ps i d;
-            there = at;
-            fit = record {
-              class = ready.class;
-              there = omega (arith, classes rows (get_or ps i d) (is_cache (get_or ps i d) at), ready.class);
-              fit = fits (get_or ps i d) at;
-            };
-          }
+          grind (arith, classes rows (get_or ps i d) (is_cache (get_or ps i d) at), is_cache (get_or ps i d), fits (get_or ps i d))
 
       keeps : (p : Cache) → slice_get ps (cache_place v row) ≡ Some p
           → (let x = cache_acts rows p v g row in CachesHold rows c (n + 1) (slice_set ps (cache_place v row) x.part)
@@ -197,10 +151,7 @@ pub caches_law : CachesAreLawful
 caches_law rows c are limits =
     record {
       start = first rows c are limits;
-      none = λ k n.
-          (let p : Cache = opened rows c.percpu in
-          let f : Cache → ℕ = λ q. objects_at n (objects_of q k) in
-          sum_by-replicate f c.threads p ∙ (ap (λ m. c.threads * m) (none_first n k rows) ∙ (let z : c.threads * 0 ≡ 0 = omega arith in z)));
+      none = grind (arith, sum_by-replicate, none_first);
       split = split_first rows c;
       ready = λ n ps us t v g count row few le h own ready. is_ready rows c are limits n ps us t v g count row h own ready;
       does = λ n ps us t p v g count row few le h own at ready. (left rows c are limits n ps us t v g count row h own ready p at).act;

@@ -1,8 +1,7 @@
 -- What the act of each row at a cache leaves.
-use Rattle.std.proofs.Common.{◌≡◌, ◌≢◌, ℕ, zero, suc, ◌+◌, ◌-◌, ◌<◌, ◌≤◌, ◌⊎◌, eqb, ltb, List, [], ◌∷◌, ◌++◌, length, take, drop, refl, sym, ap, subst, inl, inr, arith}
+use Rattle.std.proofs.Common.{◌≡◌, ◌≢◌, ℕ, ◌+◌, ◌-◌, ◌<◌, ◌≤◌, ◌⊎◌, ltb, List, [], ◌∷◌, ◌++◌, length, take, drop, refl, sym, ap, subst, inl, arith}
 use Rattle.std.proofs.Math.Nat.{min-le_left}
-use Rattle.std.proofs.lemmas.Bool.{cond_both, ltb-true, ltb-false}
-use Rattle.std.proofs.lemmas.Bool.Decides.{nat_tests}
+use Rattle.std.proofs.lemmas.Bool.{cond_both, ltb-true}
 use Rattle.std.proofs.lemmas.List.{length-append, length-drop, length-reverse}
 use Rattle.tc_units.specs.Bag.{Contents}
 use Rattle.tc_units.specs.declared.units.Addr.{Addr}
@@ -30,7 +29,8 @@ use Rattle.thread_cache.specs.declared.row.CacheRow.{CacheRow}
 use Rattle.thread_cache.specs.declared.row.CacheRow.TheVariants.{Pop, Stock, Add, Ask, Raise, AddAgain, Trim}
 use Rattle.thread_cache.specs.declared.seat.CacheSeat.{CacheSeat}
 use Rattle.thread_cache.specs.Cache.{Cache, bytes, unused, objects_of, with_class, fitting, given}
-use Rattle.thread_cache.specs.Rows.{about_row, next_cache, next_victim, popped, stocked, left_in, after_stock, after_add, after_again, ask_most, after_ask, cache_acts, cache_front}
+use Rattle.thread_cache.specs.Rows.{about_row, next_cache, next_victim, popped, stocked, left_in, after_stock, after_add, after_again, ask_most, after_ask}
+use Rattle.thread_cache.specs.Rows.{cache_acts, cache_front}
 use Rattle.thread_cache.specs.Holds.{given_in, given_at, HandAt, IsSeated, IsCacheOf}
 use Rattle.thread_cache.proofs.Stacks.{of_class, of_other, classes, trimmed_is, added_is}
 
@@ -39,28 +39,14 @@ pub next_low : (caches n : ℕ) → 0 < caches → next_cache caches n < caches
 next_low caches n some = cond_both (ltb (n + 1) caches) (n + 1) 0 (λ (k : ℕ). k < caches) (λ e. ltb-true (n + 1) caches e) (λ e. some)
 
 pub victim_low : (v : CacheSeat) → 0 < v.caches → (next_victim v).victim < v.caches
-victim_low v some =
-    let to : ℕ = next_cache v.caches v.victim in
-    cond_both (eqb to v.own) (next_cache v.caches to) to (λ (k : ℕ). k < v.caches) (λ e. next_low v.caches to some) (λ e. next_low v.caches v.victim some)
+victim_low v some = grind (arith)
 
 -- and it is another one, where there are two
 pub next_apart : (caches n : ℕ) → 1 < caches → next_cache caches n ≢ n
-next_apart caches n many =
-    cond_both (ltb (n + 1) caches) (n + 1) 0 (λ (k : ℕ). k ≢ n) (λ e is. absurd (omega (arith, is)))
-    (λ e is. let past = ltb-false (n + 1) caches e in absurd (omega (arith, is, many, past)))
+next_apart caches n many = grind (arith)
 
 pub victim_apart : (v : CacheSeat) → 1 < v.caches → (next_victim v).victim ≢ v.own
-victim_apart v many =
-    let to : ℕ = next_cache v.caches v.victim in
-    cond_both (eqb to v.own) (next_cache v.caches to) to (λ (k : ℕ). k ≢ v.own)
-    (λ e. let same : to ≡ v.own = grind (arith, nat_tests) in subst (λ (k : ℕ). next_cache v.caches to ≢ k) same (next_apart v.caches to many))
-    (λ e is. absurd (grind (arith, nat_tests)))
-
--- of one object none is left, or that
-one_left : (a : Addr) (n : ℕ) → (drop n (a ∷ []) ≡ []) ⊎ (drop n (a ∷ []) ≡ a ∷ [])
-one_left a zero = inr refl
-one_left a (suc zero) = inl refl
-one_left a (suc (suc n)) = inl refl
+victim_apart v many = grind (arith)
 
 module _ (rows : List ClassRow) (c : Config) (are : AreRows rows) (t : ℕ) (p : Cache) (v : CacheSeat) (g : Regs) (count : ℕ) where
   abbrev r : FrontRules Cache CacheSeat CacheRow
@@ -94,25 +80,7 @@ module _ (rows : List ClassRow) (c : Config) (are : AreRows rows) (t : ℕ) (p :
     moved : (kept : List Addr) (h : Contents Addr) (n : Next CacheRow) → IsCacheOf rows (with_class p k kept) → room h ≡ room g.hand
         → ((m : ℕ) → objects_at m kept + objects_at m h.items ≡ objects_at m (objects_of p k) + objects_at m g.hand.items)
         → given_in row ≡ 0 → Behind row (record g { hand = h }) n 0 → Leaves row (leaving (with_class p k kept) v (record g { hand = h }) n)
-    moved kept h n part same moves way b =
-        record {
-          act = record {
-            thread = refl;
-            room = same;
-            low = ready.class;
-            class = inl refl;
-            others = λ j m apart. ap (objects_at m) (of_other p k j kept apart);
-            moves = λ m. omega (arith, ap (objects_at m) (of_class p k kept there), moves m);
-            next = b.next;
-          };
-          part = part;
-          limit = omega (arith, way, b.given);
-          own = refl;
-          caches = refl;
-          victim = s.victim;
-          apart = s.apart;
-          hand = b.hand;
-        }
+    moved kept h n part same moves way b = grind (arith, of_other, of_class, there)
 
     -- what fits of the hand goes to the cache
     stocks : (n : Next CacheRow) → given_in row ≡ 0 → Behind row (left_in p g) n 0 → Leaves row (leaving (stocked p g) v (left_in p g) n)
@@ -133,33 +101,19 @@ module _ (rows : List ClassRow) (c : Config) (are : AreRows rows) (t : ℕ) (p :
   behind_stock s new (x ∷ xs) is few = record { next = (refl, omega (arith, ap length is, few), tt); given = refl; hand = tt }
 
   behind_add : (f : Freeing) (new : Regs) → (new.hand.items ≡ []) ⊎ (new.hand.items ≡ f.addr ∷ []) → Behind (Add f) new (after_add v.caches new.hand.items f) 0
-  behind_add f new (inl none) =
-      subst (λ (xs : List Addr). Behind (Add f) new (after_add v.caches xs f) 0) (sym none) (record { next = (refl, none); given = refl; hand = tt })
-  behind_add f new (inr one) =
-      subst (λ (xs : List Addr). Behind (Add f) new (after_add v.caches xs f) 0) (sym one)
-      (cond_both (ltb 1 v.caches) (next.Row (Ask f)) (next.Row (Trim f)) (λ (n : Next CacheRow). Behind (Add f) new n 0)
-      (λ e. record { next = (refl, alone f new one); given = refl; hand = one }) (λ e. record { next = (refl, alone f new one); given = refl; hand = one }))
+  behind_add f new x2 = grind (arith)
 
   behind_again : (f : Freeing) (new : Regs) → (new.hand.items ≡ []) ⊎ (new.hand.items ≡ f.addr ∷ [])
       → Behind (AddAgain f) new (after_again new.hand.items f) 0
-  behind_again f new (inl none) =
-      subst (λ (xs : List Addr). Behind (AddAgain f) new (after_again xs f) 0) (sym none) (record { next = (refl, none); given = refl; hand = tt })
-  behind_again f new (inr one) =
-      subst (λ (xs : List Addr). Behind (AddAgain f) new (after_again xs f) 0) (sym one)
-      (record { next = (refl, alone f new one); given = refl; hand = one })
+  behind_again f new x2 = grind (arith)
 
   -- what comes behind what a victim gave up
   behind_ask : (f : Freeing) (n : ℕ) → g.hand.items ≡ f.addr ∷ [] → Behind (Ask f) g (after_ask n f) n
-  behind_ask f n one =
-      cond_both (eqb n 0) (next.Row (Trim f)) (next.Row (Raise f n)) (λ (x : Next CacheRow). Behind (Ask f) g x n)
-      (λ e. record { next = (refl, alone f g one); given = (let z : n ≡ 0 = grind (arith, nat_tests) in sym z); hand = one })
-      (λ e. record { next = (refl, alone f g one); given = refl; hand = one })
+  behind_ask f n one = grind (arith)
 
   -- of the object of a free none is left, or that
   rest_of : (f : Freeing) → g.hand.items ≡ f.addr ∷ [] → ((left_in p g).hand.items ≡ []) ⊎ ((left_in p g).hand.items ≡ f.addr ∷ [])
-  rest_of f one =
-      let n : ℕ = fitting p g.class.0 (length g.hand.items) in
-      subst (λ (xs : List Addr). (drop n xs ≡ []) ⊎ (drop n xs ≡ f.addr ∷ [])) (sym one) (one_left f.addr n)
+  rest_of f one = grind (arith)
 
   -- only the limit changes
   limited : (row : CacheRow) (q : ℕ) (w : CacheSeat) (n : Next CacheRow) → IsReady r t g (about_row row) → IsCacheOf rows p → bytes p ≤ q
@@ -202,26 +156,13 @@ module _ (rows : List ClassRow) (c : Config) (are : AreRows rows) (t : ℕ) (p :
   pub row_leaves : (row : CacheRow) → IsSeated c t (stand v g count (Here row)) → 0 < v.caches → v.caches ≡ c.threads
       → IsReady r t g (about_row row) → IsCacheOf rows p
       → Leaves row (cache_acts rows p v g row)
-  row_leaves (Pop a) s some all ready is =
-      let xs : List Addr = objects_of p g.class.0 in
-      popped_leaves a (last_first 1 xs) s ready is (last_few 1 xs) (λ m. objects_last m 1 xs)
+  row_leaves (Pop a) s some all ready is = grind (arith, popped_leaves, last_few, objects_last)
   row_leaves (Stock w) s some all ready is =
-      let items : List Addr = (left_in p g).hand.items in
-      stocks (Stock w) s ready is (after_stock items w) refl
-      (behind_stock w (left_in p g) items refl (omega (arith, length-drop (fitting p g.class.0 (length g.hand.items)) g.hand.items, ready.hand)))
+      grind (arith, stocks (Stock w) s ready is, Stock w, behind_stock w (left_in p g), length-drop (fitting p g.class.0 (length g.hand.items)) g.hand.items)
   row_leaves (Add f) s some all ready is =
       stocks (Add f) s ready is (after_add v.caches (left_in p g).hand.items f) refl (behind_add f (left_in p g) (rest_of f s.hand))
-  row_leaves (Ask f) s some all ready is =
-      let n : ℕ = given p (ask_most rows g) in
-      let few : n ≤ unused p = min-le_left (unused p) (ask_most rows g) in
-      let within = is.within in
-      limited (Ask f) (p.limit - n) (next_victim v) (after_ask n f) ready is (omega (arith, few, within)) refl refl
-      (subst (λ m. (next_victim v).victim < m) all (victim_low v some)) (λ many. victim_apart v (omega (arith, many, all))) n
-      (behind_ask f n s.hand) (omega (arith, few, within))
-  row_leaves (Raise f n) s some all ready is =
-      let within = is.within in
-      limited (Raise f n) (p.limit + n) v (next.Row (AddAgain f)) ready is (omega (arith, within)) refl refl s.victim s.apart 0
-      (record { next = (refl, alone f g s.hand); given = refl; hand = s.hand }) (omega arith)
+  row_leaves (Ask f) s some all ready is = grind (arith, min-le_left, limited, victim_low, victim_apart, behind_ask)
+  row_leaves (Raise f n) s some all ready is = grind (arith, limited, alone)
   row_leaves (AddAgain f) s some all ready is =
       stocks (AddAgain f) s ready is (after_again (left_in p g).hand.items f) refl (behind_again f (left_in p g) (rest_of f s.hand))
   row_leaves (Trim f) s some all ready is =

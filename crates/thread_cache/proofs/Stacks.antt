@@ -51,9 +51,7 @@ module _ (rows : List ClassRow) (are : AreRows rows) (p : Cache) (is : IsCacheOf
       let kept : List Addr = without_last n old.objects in
       let went : length old.objects ≡ length kept + (length old.objects - length kept) = omega (arith, length-take (length old.objects - n) old.objects) in
       let x = less p.stacks p.limit (bytes p) k old (with_objects old kept) kept low at counted refl (length old.objects - length kept) old.size went refl in
-      let b = x.1.bytes in
-      let within = is.within in
-      changed kept (omega (arith, b, within))
+      grind (arith, changed kept)
 
   -- what fits is added
   pub added_is : (list : List Addr) → IsCacheOf rows (added p k list)

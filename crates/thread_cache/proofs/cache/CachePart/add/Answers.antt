@@ -1,6 +1,5 @@
-use Rattle.std.proofs.Common.{◌≡◌, ◌+◌, ◌-◌, ◌*◌, ◌/◌, ◌<◌, ◌≤◌, ◌++◌, length, take, ap, sym, subst, ◌∙◌, arith, get_or}
+use Rattle.std.proofs.Common.{◌≡◌, ◌+◌, ◌-◌, ◌*◌, ◌/◌, ◌<◌, ◌≤◌, ◌++◌, length, take, ap, sym, subst, ◌∙◌, arith}
 use Rattle.std.proofs.lemmas.List.{get_or_default, length-take, length-append}
-use Rattle.thread_cache.specs.Cache.{no_stack}
 use Rattle.thread_cache.proofs.CacheFacts.{more, fits, next_is_over}
 use Rattle.thread_cache.proofs.cache.CachePart.add.Goals as goal
 
@@ -17,29 +16,9 @@ invariant_of-self-2 c =
     let fit = subst (λ s. c.self.inside.bytes + n * s ≤ c.self.inside.limit) (c.size.ensures.size ∙ sym size)
     (fits c.self.inside.limit c.self.inside.bytes n c.size.result c.self.invariant.within few) in
     let short : n ≤ length list = omega (arith, c.min-count.ensures) in
-    let came : length (old.objects ++ take n list) ≡ length old.objects + n = omega (
-      arith,
-      length-append old.objects (take n list),
-      length-take n list,
-      short,
-    ) in
+    let came : length (old.objects ++ take n list) ≡ length old.objects + n = grind (arith, length-append old.objects (take n list), length-take n list) in
     more c.self.inside.stacks.items c.self.inside.limit c.self.inside.bytes c.from.result old new (old.objects ++ take n list) low
     c.index_mut-stack.ensures.value c.self.invariant made n c.size-2.result came size fit
 
 pub returns-clause-most : goal.returns-clause-most
-returns-clause-most c below =
-    let n = c.min-count.result in
-    let stacks = c.self.inside.stacks.items in
-    let old = c.index_mut-stack.result.now in
-    let low : c.from.result < length stacks = omega (arith, c.requires.class, c.from.ensures, ap (λ x. length x.stacks) c.self.view_is) in
-    let over = next_is_over c.self.inside.limit c.self.inside.bytes n c.size.result (length c.args.list.now) c.self.invariant.within c.size.ensures.some
-    c.min-count.ensures below in
-    let limit : c.self.inside.limit ≡ c.args.self.now.limit = ap (λ x. x.limit) c.self.view_is in
-    let bytes = (invariant_of-self-2 c).bytes in
-    let here : old ≡ get_or stacks c.from.result no_stack = c.index_mut-stack.ensures.value ∙ get_or_default stacks c.from.result old no_stack low in
-    let there : get_or stacks c.from.result no_stack ≡ get_or c.args.self.now.stacks c.args.class.0 no_stack =
-    ap (λ k. get_or stacks k no_stack) c.from.ensures ∙ ap (λ x. get_or x.stacks c.args.class.0 no_stack) c.self.view_is in
-    let size : c.size-2.result ≡ old.size = c.size-2.ensures.size ∙ ap (λ s. s.size) c.in_ok-append.ensures.ok in
-    let by : n * c.size.result ≡ n * c.size-2.result = ap (λ m. n * m) (c.size.ensures.size ∙ sym size) in
-    let sized : c.size.result ≡ (get_or c.args.self.now.stacks c.args.class.0 no_stack).size = c.size.ensures.size ∙ ap (λ s. s.size) (here ∙ there) in
-    omega (arith, over, limit, bytes, by, sized)
+returns-clause-most c below = grind (arith, next_is_over c.self.inside.limit c.self.inside.bytes, invariant_of-self-2 c, get_or_default)
