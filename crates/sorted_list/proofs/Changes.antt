@@ -1,8 +1,8 @@
 -- Sorted keys with a key more, fewer or changed.
-use Rattle.sorted_list.proofs.Common.{common_steps, nat_tests, cases_lt, le-leb, lt-leb, length-insert, get_or-insert_below, get_or-insert_at}
+use Rattle.sorted_list.proofs.Common.{common_steps, nat_tests, length-insert, get_or-insert_below, get_or-insert_at}
 use Rattle.sorted_list.proofs.Common.{get_or-insert_above, length-remove, get_or-remove_below, get_or-remove_above, IsPermutation-insert, IsPermutation-remove}
 use Rattle.sorted_list.proofs.Common.{IsPermutation-cons, IsPermutation-trans, IsPermutation-middle, IsPermutation-sym, IsOrder, IsInOrder, IsPlaceOf}
-use Rattle.std.proofs.Common.{◌≡◌, ℕ, ◌+◌, ◌-◌, ◌<◌, ◌≤◌, Bool, false, cond, nat_le, List, [], ◌∷◌, length, get_or, insert, remove, Contains, IsPermutation, sym, ap, subst, ◌∙◌, inl, inr, arith}
+use Rattle.std.proofs.Common.{◌≡◌, ℕ, ◌+◌, ◌-◌, ◌<◌, ◌≤◌, Bool, false, cond, nat_le, List, [], ◌∷◌, length, get_or, insert, remove, Contains, IsPermutation, sym, ap, ◌∙◌, arith}
 
 module _ {K : Type 0} (before : K → K → Bool) (total : IsOrder K before) where
   -- no key comes before itself
@@ -53,12 +53,7 @@ module _ {K : Type 0} (before : K → K → Bool) (total : IsOrder K before) whe
     place_down to target at order = grind (arith, nat_tests, moves, length-remove, stays)
 
     pub place_among : (to : K) (target : ℕ) → IsPlaceOf before keys to target → IsPlaceOf before (remove keys place) to (cond (nat_le target place) target (target - 1))
-    place_among to target at =
-        let P : Bool → Type 0 = λ b. IsPlaceOf before (remove keys place) to (cond b target (target - 1)) in
-        elim (cases_lt place target) [
-          | inl down ↦ subst P (sym (lt-leb target place down)) (place_down to target at down)
-          | inr up ↦ subst P (sym (le-leb target place up)) (place_up to target at up)
-        ]
+    place_among to target at = grind (arith, nat_tests, place_down to target, place_up to target)
 
   -- in order, and no other key comes or goes
   pub rekeyed_in_order : (keys : List K) (from to : K) (place target : ℕ) → IsInOrder before keys → IsPlaceOf before keys from place → IsPlaceOf before keys to target → Contains keys from → IsInOrder before (insert (remove keys place) (cond (nat_le target place) target (target - 1)) to)

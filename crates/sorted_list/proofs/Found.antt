@@ -16,11 +16,7 @@ module _ {K : Type 0} (before : K → K → Bool) (total : IsOrder K before) (ke
 
   -- those behind it don't come before it
   behind : (i : ℕ) (d : K) → place ≤ i → i < length keys → before (get_or keys i d) key ≡ false
-  behind i d from inside =
-      elim (cases_lt place i) [
-        | inl later ↦ ap (before (get_or keys i d)) (sym (read d)) ∙ order place i d later inside
-        | inr here ↦ ap (λ (k : K). before k key) (at_place i d (omega arith)) ∙ not_itself before total key
-      ]
+  behind i d from inside = grind (arith, nat_tests, read d, at_place i d, not_itself before total key)
 
   pub first_is : place ≡ 0 → IsFirst before keys key
   first_is e = record { held = held; first = λ i d l. behind i d (omega arith) l }

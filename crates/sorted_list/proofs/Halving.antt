@@ -25,7 +25,4 @@ halved k size half n some split most =
 pub halved_steps : (before after start size half n : ℕ) → start ≤ before → after ≡ before + 1 → 0 < size → half + half ≤ size → 2 ^ (before - start) * size ≤ n → (2 ^ (after - start) * half ≤ n) × (2 ^ (after - start) ≤ 2 * n + 1)
 halved_steps before after start size half n order e some split most =
     let k : ℕ = before - start in
-    let next : after - start ≡ k + 1 = omega arith in
-    let same : 2 ^ (after - start) ≡ 2 ^ (k + 1) = ap (λ (t : ℕ). 2 ^ t) next in
-    let got = halved k size half n some split most in
-    grind (arith, nat_tests)
+    grind (arith, halved k size half n some split most)

@@ -1,5 +1,4 @@
 -- A sorted list of rows' keys: what it says of them, and how it follows their changes.
-use Rattle.std.proofs.lemmas.Bool.Decides.{nat_tests}
 use Rattle.std.proofs.Common.{◌≡◌, ℕ, suc, ◌+◌, ◌<◌, Bool, true, not, ◌&&◌, cond, List, [], ◌∷◌, count_by, Contains, IsPermutation, refl, sym, ap, subst, ◌∙◌, inl, inr, arith}
 use Rattle.sorted_list.proofs.Common.{cases_Bool, and_parts, and_from, not_from_false, not-true, sum_by-cons, sum_by-IsPermutation, count_some, IsOrder}
 use Rattle.sorted_list.specs.Rows.{IsIndexOf}
@@ -41,9 +40,7 @@ module _ {K : Type 0} (before : K → K → Bool) (total : IsOrder K before) whe
 
   -- the row of each key
   pub row_held : {R : Type 0} (key : R → K) (rows : List R) (keys : List K) (k : K) → IsIndexOf key rows keys → Contains keys k → (row : R) × Contains rows row × (key row ≡ k)
-  row_held key rows keys k index held =
-      let some = count_held (is_same before k) keys k held (same_itself k) in
-      grind (arith, nat_tests, found_some, same_keys)
+  row_held key rows keys k index held = grind (arith, count_held (is_same before k) keys k held (same_itself k), same_itself k, found_some, same_keys)
 
 module _ {R K : Type 0} (key : R → K) where
   -- as many keys as rows

@@ -1,4 +1,4 @@
-use Rattle.std.proofs.Common.{◌≡◌, cond, nat_lt, length, ap, sym, ◌∙◌, arith}
+use Rattle.std.proofs.Common.{◌≡◌, length, arith}
 use Rattle.sorted_list.proofs.Common.{nat_tests, length-append}
 use Rattle.sorted_list.proofs.Slots.{counted_more}
 use Rattle.sorted_list.proofs.list.SortedList.open.Goals as goal
@@ -9,10 +9,4 @@ loop-slot-preserved g c = grind (arith, nat_tests, length-append, counted_more)
 pub invariant_of-result : goal.invariant_of-result
 invariant_of-result g c =
     let size : length c.in_ok-vec.field-0.items ≡ c.loop-slot.slot = omega (arith, c.in_ok-vec.ensures.len, c.in_ok-vec.field-0.ok.0) in
-    record {
-      once = λ s. c.loop-slot.invariant.once s ∙ ap (λ n. cond (nat_lt s n) 1 0) (sym size);
-      sorted = λ i j d less inside. absurd (omega arith);
-      within = omega arith;
-      size = omega (arith, c.loop-slot.invariant.size);
-      most = omega (arith, c.loop-slot.invariant.size);
-    }
+    grind (arith, nat_tests, c.loop-slot.invariant.once)

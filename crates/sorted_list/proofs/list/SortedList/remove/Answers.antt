@@ -1,6 +1,5 @@
 use Rattle.sorted_list.proofs.Common.{nat_tests, Contents}
-use Rattle.std.proofs.Common.{arith}
-use Rattle.std.proofs.Common.{ap}
+use Rattle.std.proofs.Common.{arith, ap}
 use Rattle.sorted_list.proofs.Moves.{written, left}
 use Rattle.sorted_list.proofs.list.SortedList.remove.Goals as goal
 

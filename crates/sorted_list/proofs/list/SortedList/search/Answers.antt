@@ -11,15 +11,7 @@ loop-low-preserved-then-comes_before g c =
     let middle = low + (high - low) / 2 in
     let here = λ (d : g.row.K.Denot). ap (λ (k : g.row.K.Denot). g.K.SortKey.before k c.args.key) (get_or_from_slice_get keys middle c.read.result d c.read.ensures.key) ∙ sym c.comes_before.ensures ∙ c.if-comes_before.true in
     let cost = halved_steps c.loop-low.steps c.read.new.steps c.args.steps.now (high - low) (high - (middle + 1)) (length keys) c.loop-low.invariant.counted c.read.ensures.step (omega arith) (omega arith) c.loop-low.invariant.left in
-    record {
-      order = omega arith;
-      within = c.loop-low.invariant.within;
-      early = all_before g.K.SortKey.before g.met.K.SortKey.order keys c.len-high.ensures.order c.args.key middle (omega (arith, c.loop-low.invariant.within)) here;
-      behind = c.loop-low.invariant.behind;
-      counted = omega (arith, c.loop-low.invariant.counted, c.read.ensures.step);
-      left = cost.0;
-      cost = cost.1;
-    }
+    grind (arith, all_before g.K.SortKey.before g.met.K.SortKey.order keys c.len-high.ensures.order c.args.key middle)
 
 pub loop-low-preserved : goal.loop-low-preserved
 loop-low-preserved g c =
@@ -29,12 +21,4 @@ loop-low-preserved g c =
     let middle = low + (high - low) / 2 in
     let here = λ (d : g.row.K.Denot). ap (λ (k : g.row.K.Denot). g.K.SortKey.before k c.args.key) (get_or_from_slice_get keys middle c.read.result d c.read.ensures.key) ∙ sym c.comes_before.ensures ∙ c.if-comes_before.false in
     let cost = halved_steps c.loop-low.steps c.read.new.steps c.args.steps.now (high - low) (middle - low) (length keys) c.loop-low.invariant.counted c.read.ensures.step (omega arith) (omega arith) c.loop-low.invariant.left in
-    record {
-      order = omega arith;
-      within = omega (arith, c.loop-low.invariant.within);
-      early = c.loop-low.invariant.early;
-      behind = none_behind g.K.SortKey.before g.met.K.SortKey.order keys c.len-high.ensures.order c.args.key middle here;
-      counted = omega (arith, c.loop-low.invariant.counted, c.read.ensures.step);
-      left = cost.0;
-      cost = cost.1;
-    }
+    grind (arith, none_behind g.K.SortKey.before g.met.K.SortKey.order keys c.len-high.ensures.order c.args.key middle here)
