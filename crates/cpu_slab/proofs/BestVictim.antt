@@ -1,7 +1,6 @@
 -- The victim has most unused bytes of all other classes, and is the least such class.
-use Rattle.std.proofs.Common.{◌≡◌, ◌≢◌, ℕ, zero, suc, ◌+◌, ◌-◌, ◌<◌, ◌≤◌, eqb, ltb, List, [], ◌∷◌, length, get_or, Option, Some, None, refl, sym, ap}
-use Rattle.std.proofs.Common.{◌∙◌, subst, arith}
-use Rattle.std.proofs.lemmas.Bool.{cond_both, eqb-true, eqb-false, ltb-true, ltb-false}
+use Rattle.std.proofs.Common.{◌≡◌, ◌≢◌, ℕ, zero, suc, ◌+◌, ◌-◌, ◌<◌, ◌≤◌, eqb, List, [], ◌∷◌, length, get_or, Option, Some, None, refl, arith}
+use Rattle.std.proofs.lemmas.Bool.{cond_both, eqb-true, eqb-false}
 use Rattle.cpu_slab.specs.declared.marks.Unused.{Unused}
 use Rattle.cpu_slab.specs.Growth.{preferred, victim, IsVictim, VictimsAreBest}
 
@@ -37,53 +36,21 @@ get_later : (n i c : ℕ) (ns : List ℕ) → i + 1 ≤ c → get_or (n ∷ ns) 
 get_later n i c ns low = let e : c - i ≡ suc (c - (i + 1)) = omega arith in rw e refl
 
 later_best : (k i n : ℕ) (ns : List ℕ) (best : Unused) → (i ≢ k → n < best.bytes) → IsBest k (i + 1) ns best → IsBest k i (n ∷ ns) best
-later_best k i n ns best here is =
-    record {
-      low = omega (arith, is.low);
-      there = omega (arith, is.there);
-      other = is.other;
-      is = get_later n i best.class ns is.low ∙ is.is;
-      most = most_at k i n best.bytes ns (λ e. omega (arith, here e)) is.most;
-      least = least_at k i n best.bytes best.class ns here is.least;
-    }
-
-first_best : (k i n : ℕ) (ns : List ℕ) → i ≢ k → ((j : ℕ) → j < length ns → (i + 1) + j ≢ k → get_or ns j 0 ≤ n) → IsBest k i (n ∷ ns) (record { class = i; bytes = n })
-first_best k i n ns apart later =
-    record {
-      low = omega arith;
-      there = omega arith;
-      other = apart;
-      is = let e : i - i ≡ 0 = omega arith in rw e refl;
-      most = most_at k i n n ns (λ e. omega arith) later;
-      least = λ j low before e. absurd (omega arith);
-    }
+later_best k i n ns best here is = grind (arith, get_later, most_at, least_at)
 
 skipped : (k i n : ℕ) (ns : List ℕ) (o : Option Unused) → i ≡ k → IsBestIf k (i + 1) ns o → IsBestIf k i (n ∷ ns) o
 skipped k i n ns None here is = none_at k i n ns here is
 skipped k i n ns (Some best) here is = later_best k i n ns best (λ e. absurd (e here)) is
 
 chosen : (k i n : ℕ) (ns : List ℕ) (o : Option Unused) → i ≢ k → IsBestIf k (i + 1) ns o → IsBestIf k i (n ∷ ns) (preferred (Some (record { class = i; bytes = n })) o)
-chosen k i n ns None apart is = first_best k i n ns apart (λ j low e. absurd (e (is j low)))
-chosen k i n ns (Some later) apart is =
-    cond_both (ltb n later.bytes) (Some later) (Some (record { class = i; bytes = n })) (IsBestIf k i (n ∷ ns))
-    (λ e. later_best k i n ns later (λ a. ltb-true n later.bytes e) is) (λ e. first_best k i n ns apart (λ j low a. omega (arith, is.most j low a, ltb-false n later.bytes e)))
+chosen k i n ns o apart is = grind (arith)
 
 best_from : (k i : ℕ) (ns : List ℕ) → IsBestIf k i ns (victim k i ns)
 best_from k i [] = λ j low. absurd (omega arith)
 best_from k i (n ∷ ns) = grind (arith, chosen, cond_both, eqb, eqb-false, eqb-true, skipped, (best_from k (i + 1) ns))
 
 best_of : (k : ℕ) (ns : List ℕ) (o : Option Unused) (best : Unused) → IsBestIf k 0 ns o → o ≡ Some best → IsVictim k ns best
-best_of k ns None best is e = absurd (cc)
-best_of k ns (Some other) best is e =
-    let same : other ≡ best = (cc) in
-    let at : IsVictim k ns other = record {
-      there = omega (arith, is.there);
-      other = is.other;
-      is = let z : other.class - 0 ≡ other.class = omega arith in ap (λ c. get_or ns c 0) (sym z) ∙ is.is;
-      most = λ j low apart. is.most j low (λ e. apart (omega arith));
-      least = λ j before apart. is.least j (omega (arith, is.there)) (omega arith) (λ e. apart (omega arith));
-    } in
-    subst (IsVictim k ns) same at
+best_of k ns o best is e = grind (arith)
 
 none_of : (k : ℕ) (ns : List ℕ) (o : Option Unused) → IsBestIf k 0 ns o → o ≡ None → (j : ℕ) → j < length ns → j ≡ k
 none_of k ns None is e j low = omega (arith, is j low)

@@ -1,15 +1,16 @@
 -- Growth changes capacities alone, and stays in the budget.
 use Rattle.std.proofs.Common.{◌≡◌, ◌≢◌, ℕ, zero, suc, ◌+◌, ◌-◌, ◌*◌, ◌/◌, ◌%◌, ◌<◌, ◌≤◌, eqb, leb, ltb, List, [], ◌∷◌, length, map, get_or}
-use Rattle.std.proofs.Common.{Option, Some, None, unwrap_or, option_map, refl, sym, ap, ◌∙◌, arith, min}
-use Rattle.std.specs.List.{slice_set, flat_map}
+use Rattle.std.proofs.Common.{Option, Some, None, unwrap_or, option_map, refl, arith, min}
+use Rattle.std.specs.List.{flat_map}
 use Rattle.std.specs.Int.{div_ceil}
-use Rattle.std.proofs.lemmas.Bool.{cond_both, leb-true, eqb-false}
+use Rattle.std.proofs.lemmas.Bool.{cond_both, eqb-false}
 use Rattle.std.proofs.lemmas.List.{length-set, length-map}
+use Rattle.std.proofs.lemmas.Bool.Decides.{nat_tests}
 use Rattle.cpu_slab.specs.declared.marks.Unused.{Unused}
 use Rattle.cpu_slab.specs.Slots.{SlabRow, CpuSlab, no_row, row_at, with_cap}
 use Rattle.cpu_slab.specs.Slots as slots
-use Rattle.cpu_slab.specs.Growth.{used, rise, wider, narrower, unused, preferred, victim, given_up, taken_from, widened, roomy, grown}
-use Rattle.cpu_slab.specs.Sound.{IsSoundRow, IsSoundSlab}
+use Rattle.cpu_slab.specs.Growth.{used, rise, unused, preferred, victim, given_up, taken_from, widened, roomy, grown}
+use Rattle.cpu_slab.specs.Sound.{IsSoundSlab}
 use Rattle.cpu_slab.proofs.SlabFacts.{row_other, row_sound, row_slots, used_set, sound_cap, flat_map-set_same, field_same, tops_same}
 
 -- The victim is another class that is there.
@@ -59,28 +60,17 @@ keeps_same slab sound = record { sound = sound; classes = refl; most = refl; lim
 
 pub keeps_cap : (slab : CpuSlab) (k n : ℕ) → k < length slab.rows → (row_at slab k).top ≤ n → n ≤ slab.most → used (with_cap slab k n).rows ≤ slab.limit → IsSoundSlab slab
     → KeepsObjects slab (with_cap slab k n)
-keeps_cap slab k n low above below budget sound =
-    record {
-      sound = sound_cap slab k n low above below budget sound;
-      classes = length-set slab.rows k (record (row_at slab k) { cap = n });
-      most = refl;
-      limit = refl;
-      tops = tops_same slab.rows k (record (row_at slab k) { cap = n }) low refl;
-      held = field_same slots.held slab.rows k (record (row_at slab k) { cap = n }) low refl;
-      objects = flat_map-set_same slots.held slab.rows k (record (row_at slab k) { cap = n }) refl;
-    }
+keeps_cap slab k n low above below budget sound = grind (
+  arith,
+  sound_cap slab k n low above below budget sound,
+  length-set slab.rows k,
+  tops_same slab.rows k,
+  field_same slots.held slab.rows k,
+  flat_map-set_same slots.held slab.rows k,
+)
 
 keeps_then : (slab mid new : CpuSlab) → KeepsObjects slab mid → KeepsObjects mid new → KeepsObjects slab new
-keeps_then slab mid new a b =
-    record {
-      sound = b.sound;
-      classes = b.classes ∙ a.classes;
-      most = b.most ∙ a.most;
-      limit = b.limit ∙ a.limit;
-      tops = λ j. b.tops j ∙ a.tops j;
-      held = λ j. b.held j ∙ a.held j;
-      objects = b.objects ∙ a.objects;
-    }
+keeps_then slab mid new a b = grind (arith, b.tops, a.tops, b.held, a.held)
 
 -- there is room for the growth of class k, and class k is as it was
 pub record IsRoomy (slab : CpuSlab) (k need : ℕ) (rows : List SlabRow) : Type 0 where
@@ -97,54 +87,32 @@ abbrev short_of : CpuSlab → ℕ → ℕ
 short_of slab need = need - (slab.limit - used slab.rows)
 
 given_up_ok : (slab : CpuSlab) (k v need : ℕ) → IsSoundSlab slab → v < length slab.rows → v ≢ k → IsRoomyIf slab k need (given_up slab.rows v (div_ceil (short_of slab need) (row_at slab v).size))
-given_up_ok slab k v need sound low apart =
-    let row : SlabRow = row_at slab v in
-    let short : ℕ = short_of slab need in
-    let s : ℕ = div_ceil short row.size in
-    let ok : IsSoundRow row = row_sound slab v sound low in
-    cond_both (leb s (row.cap - row.top)) (Some (slice_set slab.rows v (narrower row s))) None (IsRoomyIf slab k need) (λ e.
-    (let has : s ≤ row.cap - row.top = leb-true s (row.cap - row.top) e in
-    let less = freed_by slab v s short low (omega arith) (rounded_up short row.size ok.size) in
-    record {
-      keeps = keeps_cap slab v (row.cap - s) low (omega (arith, ok.top)) (omega (arith, ok.cap, row_slots slab v sound low)) (omega (arith, sound.budget)) sound;
-      room = omega (arith, less, sound.budget);
-      same = row_other slab.rows v k (narrower row s) (λ e. apart (sym e));
-    })) (λ e. tt)
+given_up_ok slab k v need sound low apart = grind (arith, nat_tests, row_sound, cond_both, freed_by, rounded_up, keeps_cap, row_slots, row_other)
 
 taken_ok : (slab : CpuSlab) (k need : ℕ) (o : Option Unused) → IsSoundSlab slab → IsOther k (length slab.rows) o → IsRoomyIf slab k need (taken_from slab.rows (short_of slab need) o)
 taken_ok slab k need None sound is = tt
 taken_ok slab k need (Some best) sound is = given_up_ok slab k best.class need sound is.1 is.0
 
 pub roomy_ok : (slab : CpuSlab) (k need : ℕ) → IsSoundSlab slab → IsRoomyIf slab k need (roomy slab k need)
-roomy_ok slab k need sound =
-    cond_both (leb need (slab.limit - used slab.rows)) (Some slab.rows) (taken_from slab.rows (short_of slab need) (victim k 0 (map unused slab.rows))) (IsRoomyIf slab k need)
-    (λ e. record { keeps = keeps_same slab sound; room = omega (arith, sound.budget, leb-true need (slab.limit - used slab.rows) e); same = refl })
-    (λ e. taken_ok slab k need (victim k 0 (map unused slab.rows)) sound (victim_other slab.rows k))
+roomy_ok slab k need sound = grind (arith, nat_tests, cond_both, keeps_same, taken_ok, victim_other)
 
 -- a class grows where there is room
 pub wider_used : (slab : CpuSlab) (k : ℕ) → k < length slab.rows → used (widened k slab.rows) ≡ used slab.rows + rise (row_at slab k) * (row_at slab k).size
-wider_used slab k low =
-    let row : SlabRow = row_at slab k in
-    omega (arith, used_set slab.rows k (wider row) low, add_mul row.cap (rise row) row.size)
+wider_used slab k low = grind (arith, used_set, add_mul)
 
 -- the bytes of a class's growth
 abbrev rise_bytes : CpuSlab → ℕ → ℕ
 rise_bytes slab k = rise (row_at slab k) * (row_at slab k).size
 
 widened_ok : (slab : CpuSlab) (k : ℕ) → k < length slab.rows → used slab.rows + rise_bytes slab k ≤ slab.limit → IsSoundSlab slab → KeepsObjects slab (record slab { rows = widened k slab.rows })
-widened_ok slab k low room sound =
-    let row : SlabRow = row_at slab k in
-    let ok : IsSoundRow row = row_sound slab k sound low in
-    keeps_cap slab k (row.cap + rise row) low (omega (arith, ok.top)) (omega (arith, ok.cap, row_slots slab k sound low)) (omega (arith, wider_used slab k low)) sound
+widened_ok slab k low room sound = grind (arith, row_sound slab k sound low, keeps_cap slab k, row_slots slab k sound low, wider_used slab k low)
 
 growth_by : (slab : CpuSlab) (k : ℕ) (o : Option (List SlabRow)) → k < length slab.rows → IsSoundSlab slab → IsRoomyIf slab k (rise_bytes slab k) o
     → KeepsObjects slab (record slab { rows = unwrap_or (option_map (widened k) o) slab.rows })
 growth_by slab k None low sound is = keeps_same slab sound
 growth_by slab k (Some rows) low sound is =
     let mid : CpuSlab = record slab { rows = rows } in
-    let low' : k < length rows = omega (arith, is.keeps.classes) in
-    let need = ap (λ (r : SlabRow). rise r * r.size) is.same in
-    keeps_then slab mid (record mid { rows = widened k rows }) is.keeps (widened_ok mid k low' (omega (arith, is.room, need)) is.keeps.sound)
+    grind (arith, keeps_then slab mid, widened_ok mid k)
 
 -- growth changes capacities alone
 pub grown_keeps : (slab : CpuSlab) (k : ℕ) → k < length slab.rows → IsSoundSlab slab → KeepsObjects slab (grown slab k)

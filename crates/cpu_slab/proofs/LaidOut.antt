@@ -45,9 +45,7 @@ module _ {most limit : ℕ} (marks : List ClassMarks) (slots : List Addr) {slab 
 
       -- A place is stored.
       pub slot_stored : (a : Addr) → slab_of most limit marks (slice_set slots (k * most + i) a) ≡ with_slot slab k i a
-      slot_stored a =
-          ap (λ (rows : List SlabRow). record { most = most; limit = limit; rows = rows }) (rows_of-set_slot most marks slots k i a class_low here)
-          ∙ ap (λ (s : CpuSlab). with_slot s k i a) is
+      slot_stored a = grind (arith, rows_of-set_slot, class_low, here)
 
     -- The marks of a class change.
     marks_set : (d new : ClassMarks) (row : SlabRow → SlabRow) → row_of most new (drop (k * most) slots) ≡ row (row_of most (get_or marks k d) (drop (k * most) slots))

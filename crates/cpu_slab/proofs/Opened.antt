@@ -6,7 +6,7 @@ use Rattle.std.proofs.lemmas.List.Sums.{sum_by-cons}
 use Rattle.tc_units.specs.declared.spans.ClassRow.{ClassRow}
 use Rattle.cpu_slab.specs.declared.marks.ClassMarks.{ClassMarks}
 use Rattle.cpu_slab.specs.Slots.{SlabRow, null, empty_row, opened}
-use Rattle.cpu_slab.specs.Growth.{cap_bytes, used}
+use Rattle.cpu_slab.specs.Growth.{used}
 use Rattle.cpu_slab.specs.Sound.{AreSlabLimits, IsSoundRow, IsSoundSlab}
 use Rattle.cpu_slab.specs.Layout.{slab_of, IsLaidOut}
 use Rattle.cpu_slab.proofs.LaidOut.{laid_out}
@@ -15,9 +15,7 @@ use Rattle.cpu_slab.proofs.Places.{rows_of-opened}
 
 used_opened : (most : ℕ) (rows : List ClassRow) → used (map (empty_row most) rows) ≡ 0
 used_opened most [] = refl
-used_opened most (row ∷ rows) =
-    let z : cap_bytes (empty_row most row) ≡ 0 = omega arith in
-    omega (arith, sum_by-cons cap_bytes (empty_row most row) (map (empty_row most) rows), z, used_opened most rows)
+used_opened most (row ∷ rows) = grind (arith, used_opened most rows, sum_by-cons)
 
 each_opened : (most : ℕ) (P : SlabRow → Type 0) (rows : List ClassRow) → ((row : ClassRow) → 0 < row.size → P (empty_row most row))
     → All (λ (row : ClassRow). 0 < row.size) rows → All P (map (empty_row most) rows)

@@ -31,9 +31,7 @@ used_set rows k row low = sum_by-set cap_bytes rows k row no_row low
 -- a row is written that keeps its capacity and size
 pub used_same : (rows : List SlabRow) (k : ℕ) (row : SlabRow) → k < length rows → row.cap ≡ (get_or rows k no_row).cap → row.size ≡ (get_or rows k no_row).size
     → used (slice_set rows k row) ≡ used rows
-used_same rows k row low cap size =
-    let e : cap_bytes row ≡ cap_bytes (get_or rows k no_row) = rw (cap, size) refl in
-    omega (arith, used_set rows k row low, e)
+used_same rows k row low cap size = grind (arith, used_set)
 
 -- a slab is sound where the row that is written is
 pub sound_with : (slab : CpuSlab) (k : ℕ) (row : SlabRow) → IsSoundSlab slab → IsSoundRow row → length row.slots ≡ slab.most
@@ -56,9 +54,7 @@ sound_top slab k n low within sound = grind (arith, row_slots, row_sound, sound_
 
 -- a capacity is set
 pub sound_cap : (slab : CpuSlab) (k n : ℕ) → k < length slab.rows → (row_at slab k).top ≤ n → n ≤ slab.most → used (with_cap slab k n).rows ≤ slab.limit → IsSoundSlab slab → IsSoundSlab (with_cap slab k n)
-sound_cap slab k n low above below budget sound =
-    let slots = row_slots slab k sound low in
-    sound_with slab k (record (row_at slab k) { cap = n }) sound (record { top = above; cap = omega (arith, slots); size = (row_sound slab k sound low).size }) slots budget
+sound_cap slab k n low above below budget sound = grind (arith, row_slots, sound_with, row_sound)
 
 -- what a function of rows gives, joined, stays where it is the same of the row written
 pub flat_map-set_same : {A : Type 0} (f : SlabRow → List A) (rows : List SlabRow) (k : ℕ) (row : SlabRow) → f row ≡ f (get_or rows k no_row)

@@ -1,21 +1,13 @@
 -- The victim found so far, joined with the victim of the classes that are left.
-use Rattle.std.proofs.Common.{◌≡◌, ℕ, ◌≢◌, ◌+◌, ◌-◌, ◌*◌, ◌<◌, false, eqb, map, List, ◌∷◌, length, get_or, drop, Option, Some, None, refl, sym, ap, ◌∙◌}
-use Rattle.std.proofs.Common.{arith}
+use Rattle.std.proofs.Common.{◌≡◌, ℕ, ◌≢◌, ◌+◌, ◌-◌, ◌*◌, ◌<◌, map, List, length, get_or, drop, Option, Some, arith}
 use Rattle.std.proofs.lemmas.Bool.Decides.{nat_tests}
 use Rattle.std.proofs.lemmas.List.{at_drop_more, length-map, get_or-map}
-use Rattle.std.proofs.lemmas.Bool.{eq-eqb}
 use Rattle.cpu_slab.specs.declared.marks.ClassMarks.{ClassMarks}
 use Rattle.cpu_slab.specs.declared.marks.Unused.{Unused}
 use Rattle.cpu_slab.specs.Growth.{preferred, victim}
 
-pub preferred_nothing : (best : Option Unused) → preferred best None ≡ best
-preferred_nothing None = refl
-preferred_nothing (Some best) = refl
-
 pub preferred_assoc : (best : Option Unused) (one : Unused) (later : Option Unused) → preferred (preferred best (Some one)) later ≡ preferred best (preferred (Some one) later)
-preferred_assoc None one later = refl
-preferred_assoc (Some best) one None = preferred_nothing (preferred (Some best) (Some one))
-preferred_assoc (Some best) one (Some later) = grind (arith, nat_tests)
+preferred_assoc best one later = grind (arith)
 
 -- the unused bytes of classes by their marks
 abbrev pub bytes_of : List ClassMarks → List ℕ
@@ -31,18 +23,10 @@ low_bytes marks i low = omega (arith, length-map marks (λ (m : ClassMarks). (m.
 pub victim_more : (best next all : Option Unused) (k i n : ℕ) (marks : List ClassMarks) (d : ClassMarks) → i < length marks → i ≢ k
     → n ≡ ((get_or marks i d).cap - (get_or marks i d).top) * (get_or marks i d).size → next ≡ preferred best (Some (record { class = i; bytes = n })) → preferred best (victim k i (drop i (bytes_of marks))) ≡ all → preferred next (victim k (i + 1) (drop (i + 1) (bytes_of marks))) ≡ all
 victim_more best next all k i n marks d low apart bytes is whole =
-    let one : Unused = record { class = i; bytes = n } in
-    let rest : Option Unused = victim k (i + 1) (drop (i + 1) (bytes_of marks)) in
-    let test : eqb i k ≡ false = grind (arith, nat_tests) in
-    let step = at_drop_more (victim k i) (bytes_of marks) i 0 (low_bytes marks i low) in
-    let passed : victim k i (n ∷ drop (i + 1) (bytes_of marks)) ≡ preferred (Some one) rest = rw test refl in
-    let same = ap (λ (m : ℕ). victim k i (m ∷ drop (i + 1) (bytes_of marks))) (read_bytes marks i d low ∙ sym bytes) ∙ passed in
-    ap (λ o. preferred o rest) is ∙ (preferred_assoc best one rest ∙ (ap (λ o. preferred best o) (sym (step ∙ same)) ∙ whole))
+    grind (arith, at_drop_more (victim k i) (bytes_of marks) i 0 (low_bytes marks i low), low_bytes marks i low, read_bytes marks i d low, preferred_assoc best)
 
 -- class k itself is passed over
 pub victim_same : (best next all : Option Unused) (k i : ℕ) (marks : List ClassMarks) → i < length marks → i ≡ k → next ≡ best
     → preferred best (victim k i (drop i (bytes_of marks))) ≡ all → preferred next (victim k (i + 1) (drop (i + 1) (bytes_of marks))) ≡ all
 victim_same best next all k i marks low here is whole =
-    let rest : Option Unused = victim k (i + 1) (drop (i + 1) (bytes_of marks)) in
-    let step : victim k i (drop i (bytes_of marks)) ≡ rest = at_drop_more (victim k i) (bytes_of marks) i 0 (low_bytes marks i low) ∙ rw (eq-eqb i k here) refl in
-    ap (λ o. preferred o rest) is ∙ (ap (λ o. preferred best o) (sym step) ∙ whole)
+    grind (arith, nat_tests, at_drop_more (victim k i) (bytes_of marks) i 0 (low_bytes marks i low), low_bytes marks i low)
