@@ -2,6 +2,7 @@
 use Rattle.std.proofs.Common.{◌≡◌, ℕ, ◌+◌, ◌-◌, ◌<◌, Bool, true, false, is_some, eqb, length, Option, Some, None, refl, ap, ◌∙◌, arith}
 use Rattle.std.proofs.lemmas.Bool.{eqb-true}
 use Rattle.std.proofs.lemmas.List.{length-take}
+use Rattle.std.proofs.lemmas.Bool.Decides.{nat_tests}
 use Rattle.tc_units.specs.Bag.{Contents}
 use Rattle.tc_units.specs.declared.units.Addr.{Addr}
 use Rattle.cpu_slab.specs.Slots.{SlabRow, row_at, held}
@@ -12,7 +13,7 @@ use Rattle.rseq_core.specs.declared.sequence.Reply.TheVariants.{Popped, Pushed, 
 use Rattle.rseq_core.specs.declared.regs.Regs.{Regs}
 use Rattle.rseq_core.specs.declared.cpu_part.CpuPart.{CpuPart}
 use Rattle.rseq_core.specs.Bags.{room, emptied}
-use Rattle.rseq_core.specs.Tables.{Cell, is_pop, counted, cell}
+use Rattle.rseq_core.specs.Tables.{Cell, is_pop, cell}
 use Rattle.rseq_core.specs.Agrees.{Agrees, IsSilent, Does}
 use Rattle.rseq_core.specs.Acts.{IsCurrent, runs, instruction, with_cell, answered, arrival, instructed_by, grew_by}
 use Rattle.rseq_core.proofs.CellKept.{CellOk, cell_ok}
@@ -58,72 +59,29 @@ same_regs r after thread class seq rooms = record { thread = thread; class = cla
 module _ (m : ℕ) (p : CpuPart) (r : Regs) (cpu : CpuOk m p) (low : r.class.0 < m) where
   goes_does : Agrees (is_pop r.seq) (row_at p.slab r.class.0) r r.pc
       → Instructs p r (record { cpu = with_cell p r (instruction p r); regs = (instruction p r).regs; answer = answered (instruction p r).reply })
-  goes_does agrees =
-      let c : Cell = instruction p r in let k : ℕ = r.class.0 in let row : SlabRow = row_at p.slab k in let stopped = is_some p.stopper in let pops = is_pop r.seq in
-      let within : k < length p.slab.rows = omega (arith, cpu.classes) in let sound = row_sound p.slab k cpu.sound within in
-      let ok : CellOk stopped pops row r c = cell_ok stopped pops row r r.pc sound refl agrees in
-      record {
-        others = λ j apart. row_other p.slab.rows k j c.row apart;
-        moves = cell_moves stopped row (row_at (with_cell p r c).slab k) r c c.reply (row_same p.slab.rows k c.row within) (cell_way stopped pops row r r.pc) ok.does;
-        thread = ok.thread;
-        class = ok.class;
-        seq = ok.seq;
-        same = λ rooms.
-            let able = able_from_agrees pops row r r.pc sound (λ e. record { loaded = (rooms e).loaded; hand = (rooms e).hand }) agrees in
-            same_regs r c.regs ok.thread ok.class ok.seq (cell_room stopped pops row r r.pc able);
-        begins = cell_begins stopped pops row r r.pc;
-        ran = omega (arith, cell_ran stopped pops row r r.pc);
-        epoch = omega arith;
-      }
+  goes_does agrees = grind (
+    arith,
+    row_sound p.slab,
+    cell_ok,
+    row_other p.slab.rows,
+    cell_moves,
+    row_same p.slab.rows,
+    cell_way,
+    able_from_agrees,
+    same_regs r,
+    cell_room,
+    cell_begins,
+    cell_ran,
+  )
 
   does_by : (IsCurrent r.thread p r → Agrees (is_pop r.seq) (row_at p.slab r.class.0) r r.pc) → (a b : Bool)
       → runs p.running r.thread ≡ a → eqb r.epoch p.epoch ≡ b → Instructs p r (instructed_by (arrival a b) p r)
-  does_by agrees false b here now =
-      record {
-        others = λ k apart. refl;
-        moves = record { row = refl; hand = refl };
-        thread = refl;
-        class = refl;
-        seq = refl;
-        same = λ rooms. record { thread = refl; class = refl; seq = refl; hand_room = refl; loaded_room = room_emptied r.loaded };
-        begins = record { pc = refl; nothing = refl };
-        ran = omega arith;
-        epoch = omega arith;
-      }
-  does_by agrees true false here now =
-      record {
-        others = λ k apart. refl;
-        moves = record { row = refl; hand = refl };
-        thread = refl;
-        class = refl;
-        seq = refl;
-        same = λ rooms. record { thread = refl; class = refl; seq = refl; hand_room = refl; loaded_room = room_emptied r.loaded };
-        begins = record { pc = refl; nothing = refl };
-        ran = omega arith;
-        epoch = omega arith;
-      }
-  does_by agrees true true here now = goes_does (agrees (record { runs = runs_is p.running r.thread here; epoch = eqb-true r.epoch p.epoch now }))
+  does_by agrees a b here now = grind (arith, nat_tests, room_emptied, goes_does, runs_is)
 
   grows_by : (a b : Bool) → Grows p r (grew_by (arrival a b) p r)
-  grows_by false b = record {
-    rows = λ k. refl;
-    hand = refl;
-    same = record { thread = refl; class = refl; seq = refl; hand_room = refl; loaded_room = room_emptied r.loaded };
-    begins = λ was. record { pc = refl; nothing = refl };
-    ran = refl;
-    epoch = omega arith;
-  }
-  grows_by true false = record {
-    rows = λ k. refl;
-    hand = refl;
-    same = record { thread = refl; class = refl; seq = refl; hand_room = refl; loaded_room = room_emptied r.loaded };
-    begins = λ was. record { pc = refl; nothing = refl };
-    ran = refl;
-    epoch = omega arith;
-  }
-  grows_by true true =
-      let within : r.class.0 < length p.slab.rows = omega (arith, cpu.classes) in let keeps = growth_keeps p r.class.0 cpu.sound within in
-      record { rows = keeps.held; hand = refl; same = record { thread = refl; class = refl; seq = refl; hand_room = refl; loaded_room = refl }; begins = λ was. was; ran = refl; epoch = omega arith }
+  grows_by false b = grind (arith, room_emptied)
+  grows_by true false = grind (arith, room_emptied)
+  grows_by true true = grind (arith, growth_keeps p r.class.0 cpu.sound)
 
 pub instruct_does : InstructDoes
 instruct_does m p r cpu low agrees = does_by m p r cpu low agrees (runs p.running r.thread) (eqb r.epoch p.epoch) refl refl
@@ -132,16 +90,4 @@ pub grow_does : GrowDoes
 grow_does m p r cpu low = grows_by m p r cpu low (runs p.running r.thread) (eqb r.epoch p.epoch)
 
 pub take_does : TakeDoes
-take_does m k p out cpu low =
-    let row : SlabRow = row_at p.slab k in
-    let within : k < length p.slab.rows = omega (arith, cpu.classes) in
-    let sound = row_sound p.slab k cpu.sound within in
-    let slots = row_slots p.slab k cpu.sound within in
-    let all : length (held row) ≡ row.top = omega (arith, length-take row.top row.slots, sound.top, sound.cap) in
-    record {
-      others = λ j apart. row_other p.slab.rows k j (record row { top = 0 }) apart;
-      row = ap held (row_same p.slab.rows k (record row { top = 0 }) within);
-      items = refl;
-      all = all;
-      few = omega (arith, all, sound.top, sound.cap, slots, cpu.sound.limits.most);
-    }
+take_does m k p out cpu low = grind (arith, row_sound, row_slots, length-take, row_other, row_same)

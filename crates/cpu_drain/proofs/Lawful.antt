@@ -1,14 +1,15 @@
 -- The laws: each act of a thread keeps what holds of its CPU and of all threads.
-use Rattle.std.proofs.Common.{◌≡◌, ℕ, ◌<◌, Bool, true, false, is_some, cond, eqb, ltb, length, Option, Some, None, refl, sym, ap, ◌∙◌, subst, arith, inl, inr, ◌⊎◌}
+use Rattle.std.proofs.Common.{◌≡◌, ℕ, ◌<◌, Bool, true, false, is_some, cond, eqb, ltb, length, Option, Some, None, refl, sym, ap, ◌∙◌, subst, arith, inl, inr}
+use Rattle.std.proofs.Common.{◌⊎◌}
 use Rattle.std.proofs.lemmas.Bool.{cond_both, cases_eq, eqb-true, ltb-false}
 use Rattle.std.proofs.lemmas.List.{length-set}
+use Rattle.std.proofs.lemmas.Bool.Decides.{nat_tests}
 use Rattle.tc_units.specs.declared.units.ThreadNo.{ThreadNo}
-use Rattle.cpu_slab.specs.declared.slab.CapFault.{CapFault}
-use Rattle.cpu_slab.specs.declared.slab.CapFault.TheVariants.{OverStatic, OverLimit}
-use Rattle.cpu_slab.specs.Slots.{SlabRow, CpuSlab, row_at, with_top, with_cap}
-use Rattle.cpu_slab.specs.Growth.{used, grown}
+use Rattle.cpu_slab.specs.declared.slab.CapFault.TheVariants.{OverStatic}
+use Rattle.cpu_slab.specs.Slots.{SlabRow, CpuSlab, row_at, with_top}
+use Rattle.cpu_slab.specs.Growth.{grown}
 use Rattle.cpu_slab.specs.Sound.{IsSoundSlab}
-use Rattle.cpu_slab.specs.Caps.{set_unless, with_cap_if}
+use Rattle.cpu_slab.specs.Caps.{with_cap_if}
 use Rattle.cpu_slab.proofs.SlabFacts.{row_same, row_other, sound_top}
 use Rattle.cpu_slab.proofs.GrowthFacts.{KeepsObjects, keeps_same, keeps_cap, grown_keeps}
 use Rattle.rseq_core.specs.declared.sequence.Pc.TheVariants.{Begin}
@@ -66,20 +67,12 @@ top_stays slab k j low zero (inl here) = rw here (ap (λ (r : SlabRow). r.top) (
 top_stays slab k j low zero (inr there) = ap (λ (r : SlabRow). r.top) (row_other slab.rows k j (record (row_at slab k) { top = 0 }) there) ∙ zero
 
 pub takes : TakeKeeps
-takes m i k t p s hand empty cpu pair fencing low is_empty =
-    let within : k < length p.slab.rows = omega (arith, cpu.classes) in
-    let classes = length-set p.slab.rows k (record (row_at p.slab k) { top = 0 }) ∙ cpu.classes in
-    slab_keeps cpu pair fencing.pc fencing.old fencing.is fencing.here hand (with_top p.slab k 0) empty fencing.fenced classes
-    (sound_top p.slab k 0 within (omega arith) cpu.sound) (λ j zero. top_stays p.slab k j within zero (cases_eq j k)) is_empty
+takes m i k t p s hand empty cpu pair fencing low is_empty = grind (arith, nat_tests, length-set, slab_keeps, sound_top, top_stays)
 
 -- a capacity that is set or refused changes no object
 pub set_cap_keeps : (slab : CpuSlab) (k n : ℕ) → k < length slab.rows → (row_at slab k).top ≡ 0 → IsSoundSlab slab → KeepsObjects slab (with_cap_if slab k n)
-set_cap_keeps slab k n low zero sound =
-    let sum : ℕ = used (with_cap slab k n).rows in
-    let P : Option CapFault → Type 0 = λ o. KeepsObjects slab (set_unless o slab k n) in
-    cond_both (ltb slab.most n) (Some (OverStatic slab.most)) _ P (λ e. keeps_same slab sound)
-    (λ e. cond_both (ltb slab.limit sum) (Some (OverLimit sum)) None P (λ f. keeps_same slab sound)
-    (λ f. keeps_cap slab k n low (omega (arith, zero)) (ltb-false slab.most n e) (ltb-false slab.limit sum f) sound))
+set_cap_keeps slab k n low x4 sound =
+    grind (arith, nat_tests, cond_both (ltb slab.most n) (Some (OverStatic slab.most)), keeps_same slab sound, keeps_cap slab k n low)
 
 pub sets_cap : SetCapKeeps
 sets_cap m i k n t p s empty cpu pair fencing low zero is_empty =

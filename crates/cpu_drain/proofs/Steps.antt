@@ -1,8 +1,7 @@
 -- Small facts that the acts share.
-use Rattle.std.proofs.Common.{◌≡◌, ℕ, Bool, true, false, [], Option, Some, None, refl, ap, arith}
+use Rattle.std.proofs.Common.{◌≡◌, ℕ, Bool, true, [], Option, Some, None, refl, ap, arith}
 use Rattle.std.specs.Prelude.{IsSome}
 use Rattle.std.proofs.lemmas.Bool.{eqb-true}
-use Rattle.std.proofs.lemmas.Bool.Decides.{nat_tests}
 use Rattle.tc_units.specs.declared.units.ThreadNo.{ThreadNo}
 use Rattle.cpu_slab.specs.Slots.{SlabRow, row_at}
 use Rattle.rseq_core.specs.declared.sequence.Pc.{Pc}
@@ -16,13 +15,6 @@ use Rattle.cpu_drain.specs.Seats.{Standing, Holds}
 pub runs_is : (o : Option ThreadNo) (t : ThreadNo) → runs o t ≡ true → o ≡ Some t
 runs_is None t is = absurd (cc)
 runs_is (Some u) t is = let same : u.0 ≡ t.0 = eqb-true u.0 t.0 is in ap (λ (k : ℕ). let v : ThreadNo = record { 0 = k } in Some v) same
-
-pub runs_not : (o : Option ThreadNo) (t : ThreadNo) → runs o t ≡ false → o ≡ Some t → ⊥
-runs_not None t is e = cc
-runs_not (Some u) t is e =
-    let same : u ≡ t = (cc) in
-    let number : u.0 ≡ t.0 = ap (λ (v : ThreadNo). v.0) same in
-    grind (arith, nat_tests)
 
 pub some_is : (o : Option ThreadNo) (t : ThreadNo) → o ≡ Some t → IsSome o
 some_is o t is = rw is refl
@@ -45,7 +37,4 @@ agrees_at_rest pops row row' r x4 rests has = grind (arith)
 pub stage_kept : (i : ℕ) (t : ThreadNo) (p p' : CpuPart) (o : Option Standing)
     → (p.stopper ≡ Some t → p'.stopper ≡ Some t) → (p.stopper ≡ Some t → p.fenced ≡ true → p'.fenced ≡ true)
     → (p.fenced ≡ true → (k : ℕ) → (row_at p.slab k).top ≡ 0 → (row_at p'.slab k).top ≡ 0) → Holds i t p o → Holds i t p' o
-stage_kept i t p p' None stopper fenced empty has = tt
-stage_kept i t p p' (Some s) stopper fenced empty has = λ e.
-    let held = has e in
-    record { stopper = stopper held.stopper; fenced = λ f. fenced held.stopper (held.fenced f); empty = λ k b. (let was = held.empty k b in (fenced held.stopper was.0, empty was.0 k was.1)) }
+stage_kept i t p p' o stopper fenced empty has = grind (arith)
