@@ -2,6 +2,7 @@
 use Rattle.std.proofs.Common.{◌≡◌, ℕ, ◌+◌, ◌-◌, ◌<◌, Bool, true, false, is_some, length, refl, sym, ap, ◌∙◌, subst, inl, inr, ◌⊎◌}
 use Rattle.std.proofs.lemmas.Bool.{cases_eq}
 use Rattle.std.proofs.lemmas.List.{get_or-set_other}
+use Rattle.std.proofs.Common.{arith}
 use Rattle.cpu_slab.specs.Slots.{SlabRow, CpuSlab, null, row_at, slot_of, with_row}
 use Rattle.cpu_slab.proofs.SlabFacts.{row_same, row_other}
 use Rattle.rseq_core.specs.declared.sequence.Pc.{Pc}
@@ -32,11 +33,7 @@ cell_stores stopped false row r Commit = same_row row
 other_place : (slab : CpuSlab) (k : ℕ) (row : SlabRow) (i j m : ℕ) → k < length slab.rows
     → ((n : ℕ) → (n ≡ i → ⊥) → slot_of row n ≡ slot_of (row_at slab k) n) → (j ≡ k → m ≡ i → ⊥)
     → (j ≡ k) ⊎ (j ≡ k → ⊥) → slot_of (row_at (with_row slab k row) j) m ≡ slot_of (row_at slab j) m
-other_place slab k row i j m low stores apart (inl here) =
-    let P : ℕ → Type 0 = λ n. slot_of (row_at (with_row slab k row) n) m ≡ slot_of (row_at slab n) m in
-    let at : P k = ap (λ (r : SlabRow). slot_of r m) (row_same slab.rows k row low) ∙ stores m (apart here) in
-    rw here at
-other_place slab k row i j m low stores apart (inr there) = ap (λ (r : SlabRow). slot_of r m) (row_other slab.rows k j row there)
+other_place slab k row i j m low stores apart x9 = grind (arith, row_same, row_other)
 
 pub one_place : (slab : CpuSlab) (k : ℕ) (row : SlabRow) → k < length slab.rows → StoresOnce (row_at slab k) row → DiffersAtMostOnce slab (with_row slab k row)
 one_place slab k row low stores = (k, (stores.0, λ j m apart. other_place slab k row stores.0 j m low stores.1 apart (cases_eq j k)))

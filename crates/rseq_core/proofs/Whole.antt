@@ -1,16 +1,15 @@
 -- A sequence whose instructions all run with no act between them does its whole work.
-use Rattle.std.proofs.Common.{◌≡◌, ℕ, zero, suc, ◌+◌, ◌-◌, ◌<◌, ◌≤◌, Bool, true, false, cond, eqb}
-use Rattle.std.proofs.Common.{ltb, [], ◌++◌, length, take, drop, min, Some, refl, sym, ap, ◌∙◌, subst, arith}
-use Rattle.std.proofs.lemmas.Bool.{lt-ltb, ltb-false, le-ltb}
+use Rattle.std.proofs.Common.{◌≡◌, ℕ, zero, suc, ◌+◌, ◌-◌, ◌<◌, ◌≤◌, Bool, true, false, cond, eqb, ltb, [], min, Some, refl, sym, subst, arith}
+use Rattle.std.proofs.lemmas.Bool.{lt-ltb, ltb-false}
 use Rattle.std.proofs.lemmas.Bool.Decides.{nat_tests}
 use Rattle.cpu_slab.specs.Slots.{SlabRow, held}
 use Rattle.cpu_slab.specs.Sound.{IsSoundRow}
 use Rattle.rseq_core.specs.declared.sequence.Pc.TheVariants.{Test, Copy, Commit}
-use Rattle.rseq_core.specs.declared.sequence.Reply.TheVariants.{Popped, Pushed, Empty, Full}
+use Rattle.rseq_core.specs.declared.sequence.Reply.TheVariants.{Popped, Pushed}
 use Rattle.rseq_core.specs.declared.regs.Regs.{Regs}
-use Rattle.rseq_core.specs.Tables.{Cell, is_pop, wanted, closes, counted, copy_or_commit, copy, commit}
+use Rattle.rseq_core.specs.Tables.{Cell, is_pop, wanted, counted, copy_or_commit, copy, commit}
 use Rattle.rseq_core.specs.Agrees.{HasCopied, Agrees, IsPop, IsPush}
-use Rattle.rseq_core.specs.Alone.{alone, unless_replied, PopsWhole, PushesWhole}
+use Rattle.rseq_core.specs.Alone.{alone, PopsWhole, PushesWhole}
 use Rattle.rseq_core.proofs.CellKept.{CellOk, copied_at, first_loaded, first_stored, wanted_some, copy_ok, commit_ok}
 
 -- so many objects are pushed
@@ -30,37 +29,11 @@ pub record IsQuiet (row : SlabRow) (r : Regs) (row' : SlabRow) (r' : Regs) : Typ
   pub seq : r'.seq ≡ r.seq
   pub hand : r'.hand ≡ r.hand
 
-wants_same : (row : SlabRow) (r : Regs) (row' : SlabRow) (r' : Regs) → IsQuiet row r row' r' → wanted r'.seq r'.hand.items ≡ wanted r.seq r.hand.items
-wants_same row r row' r' quiet = ap (λ s. wanted s r'.hand.items) quiet.seq ∙ ap (λ h. wanted r.seq h.items) quiet.hand
-
 ends_after : (pops : Bool) (row : SlabRow) (r : Regs) (row' : SlabRow) (r' : Regs) (c : Cell) → IsQuiet row r row' r' → Ends pops row' r' c → Ends pops row r c
-ends_after true row r row' r' c quiet ends = (
-  ends.0,
-  record {
-    got = ends.1.got;
-    filled = omega (arith, ends.1.filled, quiet.top);
-    some = ends.1.some ∙ (ap (λ n. min n row'.top) (wants_same row r row' r' quiet) ∙ ap (λ n. min (wanted r.seq r.hand.items) n) quiet.top);
-    row = sym quiet.objects ∙ ends.1.row;
-    hand = ends.1.hand ∙ ap (λ h. h.items ++ ends.1.got) quiet.hand;
-  },
-)
-ends_after false row r row' r' c quiet ends =
-    let same : pushed row' r' ≡ pushed row r = ap (λ n. min n (row'.cap - row'.top)) (wants_same row r row' r' quiet) ∙ (ap (λ n. min (wanted r.seq r.hand.items) (n - row'.top)) quiet.cap ∙ ap (λ n. min (wanted r.seq r.hand.items) (row.cap - n)) quiet.top) in (
-      ends.0 ∙ ap (λ n. Some (Pushed n)) same,
-      record {
-        free = omega (arith, ends.1.free, quiet.top, quiet.cap);
-        some = refl;
-        few = omega (arith, ends.1.few, same, ap (λ h. length h.items) quiet.hand);
-        row = ends.1.row ∙ (ap (λ xs. xs ++ take (pushed row' r') r'.hand.items) quiet.objects ∙ (ap (λ h. held row ++ take (pushed row' r') h.items) quiet.hand ∙ ap (λ n. held row ++ take n r.hand.items) same));
-        hand = ends.1.hand ∙ (ap (λ h. drop (pushed row' r') h.items) quiet.hand ∙ ap (λ n. drop n r.hand.items) same);
-      },
-    )
+ends_after pops row r row' r' c quiet ends = grind (arith)
 
 commit_ends : (pops : Bool) (row : SlabRow) (r : Regs) → IsSoundRow row → HasCopied pops row r r.count → Ends pops row r (commit pops row r)
-commit_ends true row r ok has = (refl, (commit_ok false true row r ok has).does)
-commit_ends false row r ok has =
-    let all : r.count ≡ pushed row r = has.count ∙ ap (λ n. min (wanted r.seq r.hand.items) (row.cap - n)) has.top in
-    (ap (λ n. Some (Pushed n)) all, subst (λ n. IsPush row r (commit false row r) n) all (commit_ok false false row r ok has).does)
+commit_ends pops row r ok has = grind (arith, commit_ok)
 
 has_next : (pops : Bool) (row : SlabRow) (r : Regs) (n : ℕ) → n ≤ r.count → (b : Bool) → ltb n r.count ≡ b → Agrees pops row r (cond b (Copy n) Commit) → HasCopied pops row r n
 has_next pops row r n low true is agrees = agrees.0
@@ -73,10 +46,7 @@ copied_low false row r n has = has.done
 -- what is left of the copies, and the commit
 copies_end : (m : ℕ) (pops : Bool) (row : SlabRow) (r : Regs) (d : ℕ) → IsSoundRow row → HasCopied pops row r d
     → m ≡ r.count - d → Ends pops row r (alone m false pops row r (copy_or_commit d r.count))
-copies_end zero pops row r d ok has left =
-    let e : d ≡ r.count = omega (arith, copied_low pops row r d has) in
-    let test : ltb d r.count ≡ false = le-ltb d r.count (omega arith) in
-    subst (λ b. Ends pops row r (alone 0 false pops row r (cond b (Copy d) Commit))) (sym test) (commit_ends pops row r ok (subst (λ k. HasCopied pops row r k) e has))
+copies_end zero pops row r d ok has left = grind (arith, nat_tests, copied_low, commit_ends)
 copies_end (suc m) true row r d ok has left =
     let more : d < r.count = omega arith in
     let c : Cell = copy true row r d in
@@ -105,21 +75,12 @@ not_equal a b below = grind (arith, nat_tests)
 
 test_pops : (m : ℕ) (row : SlabRow) (r : Regs) → IsSoundRow row → r.top ≡ row.top → r.loaded.items ≡ []
     → 0 < row.top → m ≡ min (wanted r.seq r.hand.items) row.top → Ends true row r (alone (suc m) false true row r Test)
-test_pops m row r ok top nothing some left =
-    let k : ℕ = min (wanted r.seq r.hand.items) r.top in
-    let count : m ≡ k = left ∙ ap (λ n. min (wanted r.seq r.hand.items) n) (sym top) in
-    let filled : eqb r.top 0 ≡ false = grind (arith, nat_tests) in
-    let P : Cell → Type 0 = λ c. Ends true row r (unless_replied c.reply c (alone m false true c.row c.regs c.regs.pc)) in
-    subst (λ b. P (cond b (closes row r Empty) (counted row r k))) (sym filled) (counted_ends m true row r k ok (first_loaded row r top (omega (arith, top, some)) nothing) count)
+test_pops m row r ok top nothing some left = grind (arith, counted_ends m true row r, first_loaded row r top)
 
 test_pushes : (m : ℕ) (row : SlabRow) (r : Regs) → IsSoundRow row → is_pop r.seq ≡ false → r.top ≡ row.top
     → r.loaded.items ≡ [] → row.top < row.cap → m ≡ pushed row r → Ends false row r (alone (suc m) false false row r Test)
 test_pushes m row r ok way top nothing some left =
-    let k : ℕ = min (wanted r.seq r.hand.items) (row.cap - r.top) in
-    let count : m ≡ k = left ∙ ap (λ n. min (wanted r.seq r.hand.items) (row.cap - n)) (sym top) in
-    let open' : eqb r.top row.cap ≡ false = not_equal r.top row.cap (omega arith) in
-    let P : Cell → Type 0 = λ c. Ends false row r (unless_replied c.reply c (alone m false false c.row c.regs c.regs.pc)) in
-    subst (λ b. P (cond b (closes row r Full) (counted row r k))) (sym open') (counted_ends m false row r k ok (first_stored row r top (omega (arith, top, some)) nothing (wanted_some r.seq r.hand.items way)) count)
+    grind (arith, not_equal r.top row.cap, counted_ends m false row r, first_stored row r top, wanted_some r.seq r.hand.items way)
 
 pub pops_whole : PopsWhole
 pops_whole row r ok nothing way want some zero is = absurd (omega arith)
