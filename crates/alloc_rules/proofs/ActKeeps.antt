@@ -9,7 +9,7 @@ use Rattle.alloc_rules.proofs.Common.{shard_row, after_new, after_new_span, with
 use Rattle.alloc_rules.proofs.Common.{MayGoOnDecided, says, goes_or_ends, follows, About, call_about, IsClassRow, AreRows, BeginsWith, most_slots, At, Here}
 use Rattle.alloc_rules.proofs.Common.{Away, Standing, stand, at_row, at_onward, at_next, regs_next, at_step, IsAsked, HandAbout, HasNone, HasSpans, IsOnward}
 use Rattle.alloc_rules.proofs.Common.{StepShape, IsShaped, IsAct, IsLawful, FrontRules, Left, FitsShard, FitsMap, IsKept, IsLowRun, ShardActsKeep}
-use Rattle.alloc_rules.proofs.Common.{HeapActsKeep, IsKindThere, IsFoundClass, MapActsKeep, NamesActsKeep, FrontActsKeep, with_spans_behind}
+use Rattle.alloc_rules.proofs.Common.{HeapActsKeep, IsKindThere, IsFoundClass, MapActsKeep, NamesActsKeep, FrontActsKeep}
 use Rattle.alloc_rules.specs.FrontLaw.{IsReady}
 use Rattle.central_free.specs.Central.{IsSound}
 use Rattle.class_shard.specs.Laws.{IsGiven}

@@ -17,7 +17,7 @@ use Rattle.rseq_core.specs.Acts.{IsCurrent, dropped, runs, left, entered, enteri
 use Rattle.rseq_core.proofs.CellKept.{CellOk, cell_ok, RestsThen, cell_rests}
 use Rattle.cpu_drain.specs.Seats.{Standing, Seat, CpuOk, IsStopping, IsHeld, Holds, SeatOk, SeatKeeps, with_regs, AreSet}
 use Rattle.cpu_drain.specs.Drains.{fenced}
-use Rattle.cpu_drain.proofs.Steps.{runs_not, some_is, agrees_begin, begin_nothing, begin_rests, agrees_at_rest, stage_kept}
+use Rattle.cpu_drain.proofs.Steps.{some_is, agrees_begin, begin_nothing, begin_rests, agrees_at_rest, stage_kept}
 
 one_runs : (o : Option ThreadNo) (t u : ThreadNo) → (u ≡ t → ⊥) → o ≡ Some t → o ≡ Some u → ⊥
 one_runs o t u apart mine other = let same : u ≡ t = (cc) in apart same

@@ -22,7 +22,7 @@ pub use Rattle.cpu_rows.{specs.declared.row.DomainStep.DomainStep, specs.declare
 pub use Rattle.cpu_rows.{specs.declared.row.Stopping.Stopping, specs.declared.seat.CpuSeat.CpuSeat}
 pub use Rattle.cpu_rows.specs.CpuActs.{Left, after_pop, after_push, after_stock, at_cpu_next, cap_answer, cpu_acts, domain_acts, drained, drains_on, due}
 pub use Rattle.cpu_rows.specs.CpuActs.{gives, gives_taken, grew_to, grows, instructed_to, instructs, is_due, leaves, left_for, looks_on, moves_to, put_in}
-pub use Rattle.cpu_rows.specs.CpuActs.{puts, replied, runs_open, sequence, sequence_by, started, stops, takes, took, yields_to_enter, leaving}
+pub use Rattle.cpu_rows.specs.CpuActs.{puts, replied, runs_open, sequence, sequence_by, started, stops, takes, took, yields_to_enter}
 pub use Rattle.cpu_rows.specs.CpuCalls.{cpu_calls, cpu_row, leave_row, move_of, stop_row, to_sequence, to_stop, with_move, with_next, yields_for}
 pub use Rattle.cpu_rows.specs.CpuRows.{cpu_refuses}
 pub use Rattle.cpu_rows.specs.CpuFits.{FitsCpu, FitsDomain, FitsSequence, taken_by}
@@ -35,7 +35,7 @@ pub use Rattle.cpu_rows.specs.PerCpu.{CpuLocal as Local, Next, Step}
 pub use Rattle.cpu_rows.specs.Shapes.{CpuShape, DomainShape, HasNone, IsAtBegin, IsAtFirst, IsGiving, IsStop, IsToCome}
 pub use Rattle.cpu_rows.specs.CpuRows.{alone, below, cpu_standing}
 pub use Rattle.cpu_rows.specs.Shapes.{giving_standing}
-pub use Rattle.cpu_rows.specs.CpuRows.{empty_to_start, empty_to_take, never, no_class_empty}
+pub use Rattle.cpu_rows.specs.CpuRows.{empty_to_start, empty_to_take, never}
 pub use Rattle.cpu_rows.specs.Slabs.{IsSlabOf, slab_class, table_class}
 pub use Rattle.cpu_rows.specs.Switches.{Kind, SwitchesAreFew, act_kind, closes, closing, count_at, enters, entry, instructed_kind, kind_at}
 pub use Rattle.cpu_rows.specs.Switches.{kind_of, neither, sequence_kind, step_kind}

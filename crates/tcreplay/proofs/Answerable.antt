@@ -25,6 +25,3 @@ can huge length_of earlier (Resize cpu class cap_) CapSet allowed = refl
 can huge length_of earlier (Resize cpu class cap_) (OverLimit sum) allowed = refl
 can huge length_of earlier (Resize cpu class cap_) (OverStatic most) allowed = refl
 can huge length_of earlier call answer allowed = absurd allowed
-
-pub answerable : (huge : ℕ) (length_of : ℕ → ℕ) (calls : List CallLine) → IsBlockRun huge length_of calls → list_all (λ (c : CallLine). can_answer c.call c.answer) calls ≡ true
-answerable huge length_of calls allowed = list_all-from_AllPass (λ (c : CallLine). can_answer c.call c.answer) calls (λ k d within. can huge length_of (take k calls) (slice_index_or calls k d).call (slice_index_or calls k d).answer (allowed (take k calls) (slice_index_or calls k d) (drop (suc k) calls) (sym (split_at calls k d within))))

@@ -116,19 +116,6 @@ module _ (audit : Audit) (t u : Reading) (f g : Shelving) (out : Writing) where
   pub audited_stopped : (end answered : End) (order : List ℕ) → answered ≡ end → order ≡ [] → IsCaseRead audit t u f g (Err end) → HasAudited audit t u f g out out answered order
   audited_stopped end answered order same none read = subst (λ e. HasAudited audit t u f g out out e order) (sym same) (stopped end order none read)
 
-  pub audited_memory : (job : AuditJob) (answered : End) (order : List ℕ) → answered ≡ Memory → order ≡ [] → IsCaseRead audit t u f g (Ok job) → HasAudited audit t u f g out out answered order
-  audited_memory job answered order same none read = subst (λ e. HasAudited audit t u f g out out e order) (sym same) (record {
-    given = read.given;
-    told = read.told;
-    answer = inr (inl tt);
-    no_order = none;
-    read = read_for None (Some audit.journal) read.given t u f g Memory read.read;
-    out = refl;
-    law = λ later. absurd (cc);
-    headline = λ done. absurd (cc);
-    refusal = λ line why is. absurd (cc);
-  })
-
 -- The journal was judged.
 module _ (audit : Audit) (t u : Reading) (f g : Shelving) (before after : Writing) (job : AuditJob) (verdict : journal.Verdict) (read : IsCaseRead audit t u f g (Ok job)) (is : verdict ≡ verdict_in (seen_case job)) (right : IsJudgedRight (seen_case job)) where
   abbrev case : Case

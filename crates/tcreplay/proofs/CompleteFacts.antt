@@ -192,9 +192,6 @@ usage_by (Some (ToGenerate workload)) before after end order generated =
 usage_by (Some (ToAudit audit)) before after end order tried =
     (λ usage. absurd (let e : true ≡ false = sym (ap is_usage usage) ∙ audited_usage audit before.trace after.trace before.files after.files before.out after.out end order tried.0 in cc), λ none. absurd (cc))
 
-pub usage_is : (asked : Option Task) (before after : Ends) (end : End) (order : List ℕ) → IsOutcome asked before after end order → (end ≡ Usage) ↔ (asked ≡ None)
-usage_is asked before after end order outcome = usage_by asked before (record after { notes = outcome.noted }) end order outcome.answered
-
 complete_by : (asked : Option Task) (before after : Ends) (noted : Writing) (end : End) (order : List ℕ)
     → IsAnswered asked before (record after { notes = noted }) end order → IsNoted end noted after.notes → IsComplete asked before after end order
 complete_by None before after noted end order refused told = refused.usage

@@ -56,35 +56,6 @@ module _ (workload : Workload) (f g : Shelving) (valid : (classes : ℕ) → IsO
     text = tt;
   }
 
-  -- what the trace asks for wasn't given: memory ran out, as it is valid
-  pub made_unread : (rows : List ClassRow) (text : List ℕ) (end : End) → text ≡ trace_of workload
-      → IsLoad (λ (rows : List ClassRow). rows) rows_in workload.classes f g (Ok rows) → (asked_of_text rows text ≡ Err end) ⊎ (end ≡ Memory)
-      → IsMade workload f g (Err end)
-  made_unread rows text end is read (inl bad) = absurd (let never : false ≡ true = subst IsOk (ap (asked_of_text rows) (sym is) ∙ bad) (valid_under (trace_of workload) valid rows) in cc)
-  made_unread rows text end is read (inr memory) = subst (λ e. IsMade workload f g (Err e)) (sym memory) (made_memory rows read)
-
-  pub made_whole : (rows : List ClassRow) (made : Made) → made.job.table ≡ rows → made.job.picks.items ≡ [] → made.text.items ≡ trace_of workload
-      → IsLoad (λ (rows : List ClassRow). rows) rows_in workload.classes f g (Ok rows) → asked_of_text rows made.text.items ≡ Ok (asked_of made.job.trace)
-      → IsMade workload f g (Ok made)
-  made_whole rows made table none text read asked = record {
-    valid = valid_under (trace_of workload) valid;
-    made = record {
-      file = read.file;
-      told = read.told;
-      step = (
-        ap (and_then (generation_job_with workload)) read.step.0
-            ∙ (ap (λ t. and_then (job_on rows) (asked_of_text rows t)) (sym text)
-            ∙ (ap (and_then (job_on rows)) asked
-            ∙ (ap (λ r. Ok (record { input = record { rows = r; asked = asked_of made.job.trace }; picks = [] })) (sym table)
-            ∙ ap (λ p. Ok (record { input = record { rows = made.job.table; asked = asked_of made.job.trace }; picks = p })) (sym none)))),
-        read.step.1,
-      );
-      files = read.files;
-      once = read.once;
-    };
-    text = text;
-  }
-
 -- the ends that no generation has
 abbrev is_barred : End → Bool
 is_barred Usage = true
@@ -172,24 +143,6 @@ module _ (workload : Workload) (source : Reading) (f g : Shelving) (out notes : 
   pub generated_ended : (end answered : End) (order : List ℕ) → answered ≡ end → order ≡ [] → IsMade workload f g (Err end)
       → HasGenerated workload (ends_of source f out notes) (ends_of source g out notes) answered order
   generated_ended end answered order same none made = subst (λ e. HasGenerated workload (ends_of source f out notes) (ends_of source g out notes) e order) (sym same) (generated_stopped end order none made)
-
-  -- memory ran out in the run
-  pub generated_memory : (made : Made) (order : List ℕ) → order ≡ [] → IsMade workload f g (Ok made) → HasGenerated workload (ends_of source f out notes) (ends_of source g out notes) Memory order
-  generated_memory made order none is = record {
-    table = is.made.file;
-    told = is.made.told;
-    valid = is.valid;
-    answer = inr (inl (none, inl refl));
-    ends = tt;
-    trace = refl;
-    files = is.made.files;
-    once = is.made.once;
-    file_count = inl is.made.step.1;
-    written = (refl, refl);
-    law = λ later. absurd (cc);
-    run = λ later. absurd (cc);
-    headline = λ done. absurd (cc);
-  }
 
 -- the end of a run, or a write fault behind it, is one that a generation has
 run_generation_end : (end : End) → IsRunEnd end → IsGenerationEnd end

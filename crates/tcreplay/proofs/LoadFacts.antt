@@ -88,18 +88,3 @@ pub load_fails : (name : List ℕ) (limit : ℕ) (before after : Shelving) (faul
     → IsLoad (λ (v : Vec ℕ Global). v.items) (file_within limit) name before after (Err end)
 load_fails name limit before after fault end is refused untold files once count =
     subst (λ e. IsLoad (λ (v : Vec ℕ Global). v.items) (file_within limit) name before after (Err e)) (sym is) (failed_load name limit before after fault refused untold files once count)
-
--- a step that needs no end, behind a load that gave its bytes
-pub then_pure : {A B V : Type 0} (bytes_of : V → List ℕ) (seen : B → A) (f : List ℕ → Result A End) (limit : ℕ) (name : List ℕ) (before after : Shelving) (bytes : V) (result : Result B End) → IsLoad bytes_of (file_within limit) name before after (Ok bytes) → IsPure seen (f (bytes_of bytes)) result → IsLoad seen (λ file. and_then f (file_within limit file)) name before after result
-then_pure {A} {B} bytes_of seen f limit name before after bytes (Ok gave) read pure = record { file = read.file; told = read.told; step = (ap (and_then f) read.step.0 ∙ pure, read.step.1); files = read.files; once = read.once }
-then_pure {A} {B} bytes_of seen f limit name before after bytes (Err end) read (inl is) = record { file = read.file; told = read.told; step = inl (ap (and_then f) read.step.0 ∙ is, read.step.1); files = read.files; once = read.once }
-then_pure {A} {B} bytes_of seen f limit name before after bytes (Err end) read (inr memory) = record { file = read.file; told = read.told; step = inr (inl (memory, read.step.1)); files = read.files; once = read.once }
-
--- a load that gave none ends what is behind it
-pub then_fails : {A B V : Type 0} (bytes_of : V → List ℕ) (seen : B → A) (f : List ℕ → Result A End) (limit : ℕ) (name : List ℕ) (before after : Shelving) (end : End) → IsLoad bytes_of (file_within limit) name before after (Err end) → IsLoad seen (λ file. and_then f (file_within limit file)) name before after (Err end)
-then_fails {A} bytes_of seen f limit name before after end read =
-    let step : IsStep seen (and_then f (file_within limit read.file)) FileFault before.faults after.faults (Err end) = elim read.step [
-      | inl e ↦ inl (ap (and_then f) e.0, e.1)
-      | inr other ↦ inr other
-    ] in
-    record { file = read.file; told = read.told; step = step; files = read.files; once = read.once }

@@ -36,12 +36,3 @@ lost_more (Some bytes) rest most more fits lost = (lost.0, omega (arith, lost.1)
 pub lost_passed : (left rest : Option (List ℕ)) (limit : ℕ) → PassedLimit left rest limit → LostAtMost left rest (limit + 1)
 lost_passed None rest limit passed = passed
 lost_passed (Some bytes) rest limit passed = (limit + 1, omega arith, passed.1)
-
--- what was read to its end has lost no more than it had
-pub lost_all : (left rest : Option (List ℕ)) (text : List ℕ) (limit : ℕ) → length text ≤ limit → IfSome left (λ bytes. text ≡ bytes)
-    → IfSome rest (λ bytes. bytes ≡ []) → (IsNone rest ↔ IsNone left) → LostAtMost left rest limit
-lost_all None None text limit short told end tells = refl
-lost_all None (Some bytes) text limit short told end tells = absurd (let e = tells.1 refl in cc)
-lost_all (Some bytes) None text limit short told end tells = absurd (let e = tells.0 refl in cc)
-lost_all (Some bytes) (Some rest) text limit short told end tells =
-    (length bytes, omega (arith, ap length told, short), ap Some (end ∙ sym (drop_all (length bytes) bytes (omega arith))))

@@ -94,20 +94,6 @@ pub tried_at : (replay : Replay) (t u : Reading) (f g : Shelving) (out : Writing
     → IsJobRead replay t u f g (Err end) → HasTried replay t u f g out out answered order
 tried_at replay t u f g out end answered order same none read = subst (λ e. HasTried replay t u f g out out e order) (sym same) (tried_stopped replay t u f g out end order none read)
 
--- memory ran out in the run
-pub tried_memory : (replay : Replay) (t u : Reading) (f g : Shelving) (out : Writing) (job : Job) (order : List ℕ) → order ≡ []
-    → IsJobRead replay t u f g (Ok job) → HasTried replay t u f g out out Memory order
-tried_memory replay t u f g out job order none read = record {
-  given = read.given;
-  told = given_to replay t u f g (Ok job) read;
-  answer = inr (inl (none, tt));
-  read = read_for (Some replay.front) (file_of replay.schedule) read.given t u f g Memory read.read;
-  out = refl;
-  law = λ later. absurd (cc);
-  run = λ later. absurd (cc);
-  headline = λ done. absurd (cc);
-}
-
 -- the text of a run that has ended was taken
 took : (end : End) (text : List ℕ) (before after : Writing) → end ≡ Done → IsWritten end text before after → Took before.taken after.taken text
 took end text before after done written = (subst (λ e. IsWritten e text before after) done written).taken

@@ -41,9 +41,6 @@ pub left_moves : {P L : Type 0} (r : Rules P L) (parts : List P) (locals : List 
     → order ≡ threads_in es → moving r (start r) order ≡ order
 left_moves r parts locals es order left is = subst (λ o. moving r (start r) o ≡ o) (sym is) (moving_all r (start r) (threads_in es) (polite_moves r (start r) (threads_in es) left.polite))
 
-pub left_few : (es : List Entry) (order : List ℕ) (events : ℕ) → order ≡ threads_in es → length es ≤ events → length order ≤ events
-left_few es order events is few = let n = length-map es (λ (e : Entry). e.thread.0) in let m = ap length is in omega (arith, n, m, few)
-
 -- over the rules of a machine
 module _ {P L : Type 0} (rules : Input → Rules P L) where
   -- behind any order there are as many as at the start
