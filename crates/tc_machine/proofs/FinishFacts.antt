@@ -1,26 +1,27 @@
 -- What a run has to tell, from what holds after its order.
-use Rattle.std.proofs.Common.{◌≡◌, ℕ, ◌+◌, ◌*◌, ◌≤◌, ◌<◌, ◌==◌, List, ◌∷◌, [], ◌++◌, length, map, filter, Option, None, Some, refl, ap, ap₂, sym, subst, ◌∙◌, inl, inr, arith}
+use Rattle.std.proofs.Common.{◌≡◌, ℕ, ◌+◌, ◌*◌, ◌≤◌, ◌<◌, List, ◌∷◌, [], length, map, None, Some, refl, ap, sym, subst, ◌∙◌, arith}
 use Rattle.std.specs.Prelude.{All, sum_by}
 use Rattle.std.specs.List.{range_with_len, slice_get}
 use Rattle.std.proofs.lemmas.List.{length-set}
-use Rattle.std.proofs.lemmas.Bool.{cases_eq, ne_eqb}
+use Rattle.std.proofs.lemmas.Bool.{ne_eqb}
 use Rattle.std.proofs.lemmas.List.Elements.{All-append, All-cons, All-nil, filter-append}
 use Rattle.std.proofs.lemmas.Option.{slice_get_within, slice_get_past, get_or_from_slice_get}
+use Rattle.std.proofs.lemmas.Bool.Decides.{nat_tests}
 use Rattle.tc_units.specs.Units.{page_bytes}
 use Rattle.tc_units.specs.declared.rows.RowView.{RowView}
 use Rattle.tc_units.specs.Classes.{length_of}
 use Rattle.tc_units.specs.declared.spans.ClassRow.{ClassRow}
 use Rattle.tc_units.specs.declared.spans.Run.{Run}
 use Rattle.tc_model.specs.declared.answers.CallLine.{CallLine}
-use Rattle.tc_model.specs.Calls.{picks_of, calls_from, answers_at, decided_by}
+use Rattle.tc_model.specs.Calls.{calls_from, decided_by}
 use Rattle.tc_model.specs.Replays.{HaveEnded}
-use Rattle.tc_model.specs.Blocks.{live_count, live_bytes, IsBlockRun}
+use Rattle.tc_model.specs.Blocks.{live_bytes, IsBlockRun}
 use Rattle.tc_model.specs.Input.{Asked}
 use Rattle.tc_model.specs.Run.{Rules, World, world_of, start, run}
 use Rattle.tc_model.specs.Steps.{moving}
 use Rattle.tc_model.proofs.MovingFacts.{IsKeptWith, run_keeps_with, move_all}
 use Rattle.heap_rules.specs.declared.config.HeapConfig.{HeapConfig}
-use Rattle.heap_rules.specs.Heap.{Heap, opened, used_pages, backed_pages, row_of}
+use Rattle.heap_rules.specs.Heap.{Heap, used_pages, backed_pages, row_of}
 use Rattle.rseq_core.specs.declared.regs.Regs.{Regs}
 use Rattle.call_steps.specs.Calls.{About}
 use Rattle.call_steps.specs.Fronts.{FrontRules}
@@ -28,15 +29,14 @@ use Rattle.call_steps.specs.Local.{Local, Decided, told as tells}
 use Rattle.alloc_rules.specs.declared.part.Part.{Part}
 use Rattle.alloc_rules.specs.declared.part.Part.TheVariants as part
 use Rattle.alloc_rules.specs.Standings.{Standing}
-use Rattle.alloc_rules.specs.Machine.{heap_config, parts_of, rules}
+use Rattle.alloc_rules.specs.Machine.{parts_of, rules}
 use Rattle.alloc_rules.specs.Law.{calls, HoldsAfter, AreLawful}
 use Rattle.alloc_rules.specs.Told.{lines_by, TellsScripts}
 use Rattle.alloc_rules.proofs.Numbers.{get_heap}
 use Rattle.alloc_rules.proofs.Orders.{order_is}
 use Rattle.tc_machine.specs.declared.standing.Standing.{Standing as Kept}
 use Rattle.tc_machine.specs.Standing.{AreStanding}
-use Rattle.tc_machine.specs.declared.totals.Totals.{Totals}
-use Rattle.tc_machine.specs.Finish.{finished, finished_in, totals_of, heap_by, heap_in, heap_place}
+use Rattle.tc_machine.specs.Finish.{finished_in, totals_of, heap_in, heap_place}
 
 -- The picks of an order are of threads that there are.
 pub record HasThreads {P L : Type 0} (n : ℕ) (w : World P L) (order : List ℕ) : Type 0 where
@@ -61,18 +61,11 @@ module _ {V R : Type 0} (locals : List (Local V R)) (t : ℕ) (none : slice_get 
   others u apart (d ∷ ds) = rw (ne_eqb u t apart) (others u apart ds)
 
   silent : (u n : ℕ) → lines_by t (decided u n) ≡ []
-  silent u n = elim (cases_eq u t) [
-    | inl same ↦
-        let gone : slice_get locals u ≡ None = ap (slice_get locals) same ∙ none in
-        ap (λ (o : Option (Local V R)). lines_by t (map (tells u) (filter (λ (d : Decided). d.act == n) (answers_at (λ (l : Local V R). l.answers) o)))) gone
-    | inr apart ↦ others u apart (filter (λ (d : Decided). d.act == n) (answers_at (λ (l : Local V R). l.answers) (slice_get locals u)))
-  ]
+  silent u n = grind (arith, nat_tests, others)
 
   no_lines : (earlier order : List ℕ) → lines_by t (calls_from decided earlier order) ≡ []
   no_lines earlier [] = refl
-  no_lines earlier (u ∷ us) =
-      filter-append (λ (c : CallLine). c.thread.0 == t) (decided u (picks_of u earlier)) (calls_from decided (u ∷ earlier) us)
-      ∙ ap₂ (λ (xs ys : List CallLine). xs ++ ys) (silent u (picks_of u earlier)) (no_lines (u ∷ earlier) us)
+  no_lines earlier (u ∷ us) = grind (arith, no_lines (u ∷ earlier) us, filter-append, silent)
 
 module _ {P V R : Type 0} (r : FrontRules P V R) (about : R → About) (Holds : ℕ → List P → List (Standing V R) → Type 0) (asked : Asked) (order : List ℕ) where
   -- What holds tells of the parts and the locals.
@@ -127,9 +120,7 @@ module _ {P V R : Type 0} {r : FrontRules P V R} {about : R → About} {Holds : 
     told_are = ap (λ ls. calls ls order) told.locals_are ∙ sym (ap (λ (w : World (Part P) (Local V R)). calls w.locals order) told.holds.is)
 
     pub blocks_are : {rows : List ClassRow} {lines : List CallLine} → r.calls.rows ≡ rows → lines ≡ calls locals order → IsBlockRun asked.config.huge (length_of rows) lines
-    blocks_are {rows} same is =
-        subst (IsBlockRun asked.config.huge (length_of rows)) (sym (calls_are is))
-        (subst (λ rows. IsBlockRun asked.config.huge (length_of rows) (calls told.holds.locals order)) same told.holds.blocks)
+    blocks_are {rows} same is = grind (arith)
 
     -- the calls tell each thread's whole script, where all scripts have ended
     pub scripts_are : {lines : List CallLine} → HaveEnded (rules r about asked) (run (rules r about asked) order) → lines ≡ calls locals order → TellsScripts asked lines
@@ -148,30 +139,12 @@ module _ {P V R : Type 0} {r : FrontRules P V R} {about : R → About} {Holds : 
       huge_is = ap (λ (h : Heap). h.config.huge) heap_is ∙ ap (λ (config : HeapConfig). config.huge) told.holds.config
 
       heap_in_is : heap_in r asked (parts_of r.split told.holds.parts) ≡ told.holds.parts.heap
-      heap_in_is =
-          let first : Heap = opened (heap_config asked.config) in
-          let own = ap (λ ps. slice_get ps (heap_place r)) (sym told.parts_are) ∙ told.heap_at in
-          ap (heap_by first) (get_or_from_slice_get (parts_of r.split told.holds.parts) (heap_place r) (part.Heap told.holds.parts.heap) (part.Heap first) own)
+      heap_in_is = grind (arith, get_or_from_slice_get)
 
       module _ {lines : List CallLine} {s : Kept} {used resident : ℕ} (is : lines ≡ calls locals order) (stand : AreStanding lines s) (used_is : used ≡ used_pages heap) where
         pub totals_are : {count : ℕ} {rows : List RowView} → count ≡ length lines → resident ≡ backed_pages heap → rows ≡ map (row_of heap) (range_with_len 1 heap.config.huge)
             → record { calls = count; live = s.count; live_bytes = s.bytes; used = used; resident = resident; rows = rows } ≡ totals_of (finished_in r about asked order)
-        totals_are {count} {rows} count_is resident_is rows_are =
-            let made : ℕ → ℕ → ℕ → ℕ → ℕ → List RowView → Totals =
-            λ n live bytes pages backed views. record { calls = n; live = live; live_bytes = bytes; used = pages; resident = backed; rows = views } in
-            ap (λ n. made n s.count s.bytes used resident rows) count_is
-            ∙ (ap (λ n. made (length lines) n s.bytes used resident rows) stand.count
-            ∙ (ap (λ n. made (length lines) (live_count lines) n used resident rows) stand.bytes
-            ∙ (ap (λ n. made (length lines) (live_count lines) (live_bytes lines) n resident rows) used_is
-            ∙ (ap (λ n. made (length lines) (live_count lines) (live_bytes lines) (used_pages heap) n rows) resident_is
-            ∙ (ap (made (length lines) (live_count lines) (live_bytes lines) (used_pages heap) (backed_pages heap)) rows_are
-            ∙ ap totals_of (ap (λ ls. finished ls heap) (calls_are is)
-            ∙ (ap (finished (calls told.holds.locals order)) (heap_is ∙ sym heap_in_is)
-            ∙ sym (ap (λ (w : World (Part P) (Local V R)). finished (calls w.locals order) (heap_in r asked w.parts)) told.holds.is))))))))
+        totals_are {count} {rows} count_is resident_is rows_are = grind (arith, calls_are, heap_is, heap_in_is)
 
         pub covered_is : used ≡ sum_by (λ (x : Run). x.pages) heap.runs → used_pages heap ≤ resident → s.bytes ≤ resident * page_bytes
-        covered_is runs_are covers =
-            let bytes : live_bytes lines ≡ live_bytes (calls told.holds.locals order) = ap live_bytes (calls_are is) in
-            let same : sum_by (λ (x : Run). x.pages) heap.runs ≡ sum_by (λ (x : Run). x.pages) told.holds.parts.heap.runs =
-            ap (λ (h : Heap). sum_by (λ (x : Run). x.pages) h.runs) heap_is in
-            omega (arith, stand.bytes, bytes, told.holds.covered, same, used_is, runs_are, covers)
+        covered_is runs_are covers = grind (arith)

@@ -1,9 +1,9 @@
 -- A trace that was read gives back what it asks for, and its threads are those of the rules.
-use Rattle.std.proofs.Common.{◌≡◌, ℕ, zero, suc, ◌+◌, ◌<◌, true, false, cond, eqb, List, [], ◌∷◌, ◌++◌, drop, map, filter, length, refl, sym, ap, ◌∙◌, subst, inl, inr, arith, eq-eqb, append_assoc}
+use Rattle.std.proofs.Common.{◌≡◌, ℕ, zero, suc, ◌+◌, ◌<◌, cond, eqb, List, [], ◌∷◌, ◌++◌, map, length, refl, sym, ap, ◌∙◌, arith, append_assoc}
 use Rattle.std.specs.List.{range_with_len}
-use Rattle.std.proofs.lemmas.Bool.{cases_eq, ne_eqb}
 use Rattle.std.proofs.lemmas.List.{length-map}
 use Rattle.std.proofs.lemmas.List.FromFn.{length-range_with_len, get_or-map-range_with_len, map-range_with_len_more}
+use Rattle.std.proofs.lemmas.Bool.Decides.{nat_tests}
 use Rattle.tc_units.specs.declared.units.ThreadNo.{ThreadNo}
 use Rattle.tc_units.specs.declared.spans.ClassRow.{ClassRow}
 use Rattle.tc_model.specs.declared.calls.Planned.{Planned}
@@ -16,9 +16,8 @@ use Rattle.trace_reader.specs.Valid.{IsAsked, AreCalls}
 use Rattle.tc_model.specs.Run.{world_of, start}
 use Rattle.call_steps.specs.Calls.{About}
 use Rattle.call_steps.specs.Fronts.{FrontRules}
-use Rattle.call_steps.specs.Local.{Local, first_local}
 use Rattle.alloc_rules.specs.Machine.{first_of, parts_of, rules, turns}
-use Rattle.tc_machine.specs.Inputs.{IsRead, script_at, next_call, calls_by, asked_of, input_of}
+use Rattle.tc_machine.specs.Inputs.{IsRead, script_at, calls_by, asked_of, input_of}
 use Rattle.tc_machine.specs.Opening.{local_at, locals_at, parts_at}
 
 -- the script of a thread, by its place
@@ -29,11 +28,7 @@ script_at_is n calls t below = ap (λ (s : Script). s.calls) (get_or-map-range_w
 script-cons : (t : ℕ) (c : ThreadCall) (cs : List ThreadCall) → script_of t (c ∷ cs) ≡ cond (eqb c.thread.0 t) (c.planned ∷ script_of t cs) (script_of t cs)
 script-cons t c cs =
     let f : ThreadCall → Planned = λ (d : ThreadCall). d.planned in
-    let ys : List ThreadCall = filter (λ (d : ThreadCall). eqb d.thread.0 t) cs in
-    elim (eqb c.thread.0 t) as (λ b. map f (cond b (c ∷ ys) ys) ≡ cond b (c.planned ∷ map f ys) (map f ys)) [
-      | true ↦ refl
-      | false ↦ refl
-    ]
+    grind (arith)
 
 -- all calls are made by threads below n
 abbrev pub AreBelow : ℕ → List ThreadCall → Type 0
@@ -52,22 +47,7 @@ below_read classes asked valid = below_from classes asked.config asked.calls [] 
 calls_are : (n : ℕ) (calls : List ThreadCall) (left : ℕ → List Planned) → ((u : ℕ) → u < n → left u ≡ script_of u calls) → AreBelow n calls
     → calls_by (map (λ (c : ThreadCall). c.thread) calls) left ≡ calls
 calls_are n [] left same below = refl
-calls_are n (c ∷ cs) left same below =
-    let t : ℕ = c.thread.0 in
-    let own : script_of t (c ∷ cs) ≡ c.planned ∷ script_of t cs = script-cons t c cs ∙ ap (λ b. cond b (c.planned ∷ script_of t cs) (script_of t cs)) (eq-eqb t t refl) in
-    let here : left t ≡ c.planned ∷ script_of t cs = same t below.0 ∙ own in
-    let next : ℕ → List Planned = λ u. cond (eqb u t) (drop 1 (left u)) (left u) in
-    let rest : (u : ℕ) → u < n → next u ≡ script_of u cs = λ u in_range. elim (cases_eq u t) [
-      | inl is ↦
-          let e : eqb u t ≡ true = eq-eqb u t is in
-          ap (λ b. cond b (drop 1 (left u)) (left u)) e ∙ (ap (λ v. drop 1 (left v)) is ∙ ap (drop 1) here ∙ sym (ap (λ v. script_of v cs) is))
-      | inr apart ↦
-          let e : eqb u t ≡ false = ne_eqb u t apart in
-          let f : eqb t u ≡ false = ne_eqb t u (λ is. apart (sym is)) in
-          ap (λ b. cond b (drop 1 (left u)) (left u)) e ∙ (same u in_range ∙ (script-cons u c cs ∙ ap (λ b. cond b (c.planned ∷ script_of u cs) (script_of u cs)) f))
-    ] in
-    ap (λ ps. next_call c.thread ps ++ calls_by (map (λ (d : ThreadCall). d.thread) cs) next) here
-    ∙ ap (λ ds. c ∷ ds) (calls_are n cs next rest below.1)
+calls_are n (c ∷ cs) left same below = grind (arith, nat_tests, calls_are n cs, script-cons)
 
 asked_again : (classes : ℕ) (asked : Asked) → IsAsked classes asked → asked_of (trace_of asked) ≡ asked
 asked_again classes asked valid =
@@ -82,14 +62,7 @@ input_is rows classes trace asked read = ap (λ a. let i : Input = record { rows
 -- Two functions that agree below n give the same list there.
 pub same_below : {X : Type 0} (f g : ℕ → X) (n : ℕ) → ((t : ℕ) → t < n → f t ≡ g t) → map f (range_with_len 0 n) ≡ map g (range_with_len 0 n)
 same_below f g zero same = refl
-same_below {X} f g (suc n) same =
-    let e : suc n ≡ n + 1 = omega arith in
-    let P : ℕ → Type 0 = λ k. map f (range_with_len 0 k) ≡ map g (range_with_len 0 k) in
-    subst P (sym e)
-    (map-range_with_len_more f 0 n n (omega arith)
-    ∙ (ap (λ xs. xs ++ f n ∷ []) (same_below f g n (λ t below. same t (omega arith)))
-    ∙ (ap (λ x. map g (range_with_len 0 n) ++ x ∷ []) (same n (omega arith))
-    ∙ sym (map-range_with_len_more g 0 n n (omega arith)))))
+same_below {X} f g (suc n) same = grind (arith, same_below f g n, map-range_with_len_more f 0 n n, f n, same n, map-range_with_len_more g 0 n n)
 
 map_twice : {X Y Z : Type 0} (f : X → Y) (g : Y → Z) (xs : List X) → map g (map f xs) ≡ map (λ x. g (f x)) xs
 map_twice f g [] = refl
@@ -105,24 +78,18 @@ threads_are classes trace asked read =
 -- the turns of the rules are those of the trace
 pub turns_are : (rows : List ClassRow) (classes : ℕ) (trace : Trace) (asked : Asked) → IsRead classes trace asked → map (λ (t : ThreadNo). t.0) trace.turns ≡ turns (asked_of trace)
 turns_are rows classes trace asked read =
-    ap (λ (t : Trace). map (λ (u : ThreadNo). u.0) t.turns) read.is
-    ∙ (map_twice (λ (c : ThreadCall). c.thread) (λ (u : ThreadNo). u.0) asked.calls
-    ∙ sym (ap turns (asked_is classes trace asked read)))
+    grind (arith, map_twice (λ (c : ThreadCall). c.thread) (λ (u : ThreadNo). u.0) asked.calls, asked_is classes trace asked read)
 
 -- the threads at the start, and the whole start
 module _ {P V R : Type 0} (r : FrontRules P V R) (about : R → About) where
   locals_are : (asked : Asked) → locals_at r about (scripts_of asked) ≡ (rules r about asked).locals
   locals_are asked =
       let n : ℕ = asked.config.threads in
-      let local : ℕ → List Planned → Local V R = λ t ps. first_local r.calls (record { 0 = t }) (r.seats t) ps in
-      ap (λ k. map (local_at r about (scripts_of asked)) (range_with_len 0 k)) (scripts_count asked)
-      ∙ same_below (local_at r about (scripts_of asked)) (first_of r about asked) n (λ t below. ap (local t) (script_at_is n asked.calls t below))
+      grind (arith, scripts_count asked, same_below (local_at r about (scripts_of asked)) (first_of r about asked) n, script_at_is n asked.calls)
 
   start_again : (asked : Asked) → world_of (parts_of r.split (parts_at r about asked.config (labels_of asked))) (locals_at r about (scripts_of asked)) ≡ start (rules r about asked)
   start_again asked = ap (λ ls. world_of (parts_of r.split (parts_at r about asked.config (labels_of asked))) ls) (locals_are asked)
 
   pub start_is : (classes : ℕ) (trace : Trace) (asked : Asked) → IsRead classes trace asked
       → world_of (parts_of r.split (parts_at r about trace.config trace.labels)) (locals_at r about trace.scripts) ≡ start (rules r about (asked_of trace))
-  start_is classes trace asked read =
-      ap (λ (t : Trace). world_of (parts_of r.split (parts_at r about t.config t.labels)) (locals_at r about t.scripts)) read.is
-      ∙ (start_again asked ∙ sym (ap (λ a. start (rules r about a)) (asked_is classes trace asked read)))
+  start_is classes trace asked read = grind (arith, start_again asked, asked_is classes trace asked read)

@@ -1,25 +1,12 @@
 -- Parts that are added one by one.
-use Rattle.std.proofs.Common.{◌≡◌, ℕ, ◌+◌, List, [], ◌∷◌, ◌++◌, length, map, take, drop, Some, sym, ap, ◌∙◌, arith, append_assoc}
+use Rattle.std.proofs.Common.{◌≡◌, ℕ, ◌+◌, List, [], ◌∷◌, ◌++◌, length, map, take, Some, sym, ap, ◌∙◌, arith, append_assoc}
 use Rattle.std.specs.List.{slice_get}
 use Rattle.std.proofs.lemmas.List.{map-append, take_more}
 use Rattle.std.proofs.lemmas.Option.{slice_get_within, get_or_from_slice_get}
 use Rattle.tc_units.specs.declared.spans.ClassRow.{ClassRow}
 use Rattle.alloc_rules.specs.declared.part.Part.{Part}
 use Rattle.alloc_rules.specs.declared.part.Part.TheVariants as part
-use Rattle.alloc_rules.specs.Machine.{Parts, parts_of, middle_of, first_shard, first_shards}
-
--- the parts of a run stand in the order in which they were added
-pub parts_added : {P : Type 0} (split : ℕ) (p : Parts P) (fronts later : List P) (none first shards middle all : List (Part P)) → none ≡ [] → fronts ≡ take split p.fronts → later ≡ drop split p.fronts
-    → first ≡ none ++ map part.Front fronts → shards ≡ first ++ map part.Shard p.shards → middle ≡ shards ++ middle_of p → all ≡ middle ++ map part.Front later → all ≡ parts_of split p
-parts_added split p fronts later none first shards middle all is_none fronts_are later_are first_is shards_are middle_is all_is =
-    let of_class = map part.Shard p.shards in
-    let front = map part.Front (take split p.fronts) in
-    let last = map part.Front (drop split p.fronts) in
-    let begin : first ≡ front = first_is ∙ (ap (λ zs. zs ++ map part.Front fronts) is_none ∙ ap (map part.Front) fronts_are) in
-    all_is
-    ∙ (ap (λ zs. zs ++ map part.Front later) (middle_is ∙ ap (λ zs. zs ++ middle_of p) (shards_are ∙ ap (λ zs. zs ++ of_class) begin))
-    ∙ (ap (λ zs. ((front ++ of_class) ++ middle_of p) ++ map part.Front zs) later_are
-    ∙ (append_assoc (front ++ of_class) (middle_of p) last ∙ append_assoc front of_class (middle_of p ++ last))))
+use Rattle.alloc_rules.specs.Machine.{first_shard, first_shards}
 
 -- the shard of one class more
 shards_more : (room k : ℕ) (rows : List ClassRow) (row : ClassRow) → first_shards room k (rows ++ row ∷ []) ≡ first_shards room k rows ++ first_shard room (k + length rows) row ∷ []

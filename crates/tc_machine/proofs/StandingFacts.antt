@@ -1,13 +1,12 @@
 -- What a call's answer makes of the blocks that stand.
-use Rattle.std.proofs.Common.{◌≡◌, ℕ, ◌+◌, ◌^◌, ◌≤◌, false, not, cond, eqb, get_or, List, [], ◌∷◌, ◌++◌, length, take, Option, Some, None, refl, sym, ap, ◌∙◌, subst, arith, inl, inr}
+use Rattle.std.proofs.Common.{◌≡◌, ℕ, ◌+◌, ◌^◌, ◌≤◌, eqb, get_or, List, [], ◌∷◌, ◌++◌, length, take, Option, Some, None, refl, sym, ap, ◌∙◌, subst, arith}
 use Rattle.std.specs.Prelude.{count_by, find, sum_by}
-use Rattle.std.specs.List.{slice_get}
 use Rattle.std.specs.Option.{option_or}
-use Rattle.std.proofs.lemmas.Bool.{cases_Bool, cases_eq, ne_eqb, cond-true, cond-false}
 use Rattle.std.proofs.lemmas.List.{length-append}
 use Rattle.std.proofs.Math.Seq.{take-append_seam}
 use Rattle.std.proofs.lemmas.List.Sums.{sum_by-cons}
 use Rattle.std.proofs.lemmas.Option.{slice_get_within, slice_get-get_or}
+use Rattle.std.proofs.lemmas.Bool.Decides.{nat_tests}
 use Rattle.tc_units.specs.declared.units.Addr.{Addr}
 use Rattle.tc_units.specs.declared.units.Label.{Label}
 use Rattle.tc_units.proofs.Counts.{count-cons}
@@ -17,7 +16,7 @@ use Rattle.tc_model.specs.declared.calls.Call.TheVariants.{Malloc, Free}
 use Rattle.tc_model.specs.declared.answers.Answer.{Answer}
 use Rattle.tc_model.specs.declared.answers.Answer.TheVariants.{Block, Freed}
 use Rattle.tc_model.specs.declared.answers.CallLine.{CallLine}
-use Rattle.tc_model.specs.Blocks.{Extent, blocks_after, blocks_with, with_block, without_block, allocates, answer_to, FreesBlock, IsAllowed, IsBlockRun}
+use Rattle.tc_model.specs.Blocks.{Extent, blocks_after, blocks_with, without_block, answer_to, FreesBlock, IsAllowed, IsBlockRun}
 use Rattle.holdings.specs.Apart.{AreApart}
 use Rattle.holdings.proofs.CallFacts.{blocks_after-push, answer_cases, answer_to-push_new, answer_to-push_old}
 use Rattle.holdings.proofs.Standing.{answer_same}
@@ -40,38 +39,23 @@ pub record LeavesOne (a : ℕ) (bs : List Extent) (b : Extent) : Type 0 where
 
 leaves_one : (a : ℕ) (bs : List Extent) (b : Extent) → count_by (λ (x : Extent). eqb x.addr a) bs ≤ 1 → find (λ (x : Extent). eqb x.addr a) bs ≡ Some b → LeavesOne a bs b
 leaves_one a [] b once found = absurd (cc)
-leaves_one a (x ∷ xs) b once found =
-    elim (cases_Bool (eqb x.addr a)) [
-      | inl here ↦
-          let same : Some x ≡ Some b = sym (cond-true (eqb x.addr a) (Some x) (find (λ (y : Extent). eqb y.addr a) xs) here) ∙ found in
-          let e : x ≡ b = cc in
-          let none : count_by (λ (y : Extent). eqb y.addr a) xs ≡ 0 = omega (arith, once, count-cons (λ (y : Extent). eqb y.addr a) x xs, ap (λ t. cond {A = ℕ} t 1 0) here) in
-          let w : without_block a (x ∷ xs) ≡ xs = ap (λ t. cond (not t) (x ∷ without_block a xs) (without_block a xs)) here ∙ without_none (λ (y : Extent). eqb y.addr a) xs none in
-          record {
-            count = omega (arith, ap length w);
-            bytes = omega (arith, ap (sum_by (λ (y : Extent). y.len)) w, sum_by-cons (λ (y : Extent). y.len) x xs, ap (λ (y : Extent). y.len) e);
-            gone = ap (find (λ (y : Extent). eqb y.addr a)) w ∙ none_found a xs none;
-          }
-      | inr other ↦
-          let rest = leaves_one a xs b (omega (arith, once, count-cons (λ (y : Extent). eqb y.addr a) x xs)) (sym (cond-false (eqb x.addr a) (Some x) (find (λ (y : Extent). eqb y.addr a) xs) other) ∙ found) in
-          let w : without_block a (x ∷ xs) ≡ x ∷ without_block a xs = ap (λ t. cond (not t) (x ∷ without_block a xs) (without_block a xs)) other in
-          record {
-            count = omega (arith, ap length w, rest.count);
-            bytes = omega (arith, ap (sum_by (λ (y : Extent). y.len)) w, sum_by-cons (λ (y : Extent). y.len) x xs, sum_by-cons (λ (y : Extent). y.len) x (without_block a xs), rest.bytes);
-            gone = ap (find (λ (y : Extent). eqb y.addr a)) w ∙ (cond-false (eqb x.addr a) (Some x) (find (λ (y : Extent). eqb y.addr a) (without_block a xs)) other ∙ rest.gone);
-          }
-    ]
+leaves_one a (x ∷ xs) b once found = grind (
+  arith,
+  nat_tests,
+  leaves_one a xs b,
+  count-cons (λ (y : Extent). eqb y.addr a) x xs,
+  without_none (λ (y : Extent). eqb y.addr a) xs,
+  sum_by-cons (λ (y : Extent). y.len) x xs,
+  none_found a xs,
+  sum_by-cons (λ (y : Extent). y.len) x (without_block a xs),
+)
 
 -- what is noted of a label stands at its place
 noted_is : (o : Option ℕ) (len : ℕ) → known_bytes o ≡ Some len → o ≡ Some len
 noted_is o len is = grind (arith)
 
 pub read_noted : (lens : List ℕ) (label len n : ℕ) → bytes_of_label lens label ≡ Some len → n ≡ get_or lens label n → n ≡ len
-read_noted lens label len n is read =
-    let there : slice_get lens label ≡ Some len = noted_is (slice_get lens label) len is in
-    let same : Some (get_or lens label n) ≡ Some len = sym (slice_get-get_or lens label n (slice_get_within lens label len there)) ∙ there in
-    let e : get_or lens label n ≡ len = cc in
-    read ∙ e
+read_noted lens label len n is read = grind (arith, noted_is, slice_get-get_or, slice_get_within)
 
 -- An answer that is no block's and frees none changes nothing, and nothing is noted of it.
 pub record IsQuiet (answer : Answer) : Type 0 where
@@ -98,15 +82,7 @@ len_small huge round earlier call addr len arena allowed = let p = place_of huge
 pub may_stand : (huge : ℕ) (round : ℕ → ℕ) (calls : List CallLine) → IsBlockRun huge round calls → huge ≤ most_huge → HearsEach MayStand calls
 may_stand huge round calls run arena earlier line later is few =
     let taken : take (length earlier) calls ≡ earlier = ap (take (length earlier)) (sym is) ∙ take-append_seam earlier (line ∷ later) in
-    let within : length earlier ≤ length calls = omega (arith, ap length is, length-append earlier (line ∷ later)) in
-    record {
-      huge = huge;
-      round = round;
-      arena = arena;
-      few = omega (arith, few);
-      apart = subst (λ (e : List CallLine). AreApart (blocks_after e)) taken (apart_after huge round calls run (length earlier) within);
-      allowed = run earlier line later is;
-    }
+    grind (arith, length-append earlier (line ∷ later), apart_after huge round calls run (length earlier), run earlier line later is)
 
 module _ (s : Standing) (line : CallLine) (huge : ℕ) (round : ℕ → ℕ) (earlier : List CallLine) (stand : AreStanding earlier s) (apart : AreApart (blocks_after earlier)) (arena : huge ≤ most_huge) (allowed : IsAllowed huge round earlier line.call line.answer) where
   after : blocks_after (earlier ++ line ∷ []) ≡ blocks_with (blocks_after earlier) line.answer
@@ -120,23 +96,7 @@ module _ (s : Standing) (line : CallLine) (huge : ℕ) (round : ℕ → ℕ) (ea
       → bytes_of_label s'.lens.items label.0 ≡ option_or (bytes_of_label s.lens.items label.0) (Some len) → ((other : ℕ) → (label.0 ≡ other → ⊥) → bytes_of_label s'.lens.items other ≡ bytes_of_label s.lens.items other)
       → s'.count ≡ s.count + 1 → s'.bytes ≡ s.bytes + len → AreStanding (earlier ++ line ∷ []) s'
   told_block addr len label size s' is asks here others count bytes =
-      let b : Extent = record { addr = addr.0; len = len } in
-      let allows : IsAllowed huge round earlier line.call (Block addr len) = subst (IsAllowed huge round earlier line.call) is allowed in
-      let bs : List Extent = blocks_after earlier in
-      let e : blocks_after (earlier ++ line ∷ []) ≡ with_block b bs = after ∙ ap (blocks_with bs) is in
-      let small : len ≤ 2 ^ 37 = len_small huge round earlier line.call addr len arena allows in
-      record {
-        lens = λ l. elim (cases_eq label.0 l) [
-          | inl same ↦ subst (λ k. AreBytesOf (answer_to k (earlier ++ line ∷ [])) (bytes_of_label s'.lens.items k)) same (noted_first earlier line addr len label size (bytes_of_label s.lens.items label.0) (bytes_of_label s'.lens.items label.0) is asks here (stand.lens label.0))
-          | inr other ↦
-              let apart : allocates l line.call ≡ false = ap (allocates l) asks ∙ ne_eqb label.0 l other in
-              subst (λ (n : Option ℕ). AreBytesOf (answer_to l (earlier ++ line ∷ [])) n) (sym (others l other)) (subst (λ (o : Option Answer). AreBytesOf o (bytes_of_label s.lens.items l)) (sym (answer_same earlier line l apart)) (stand.lens l))
-        ];
-        count = omega (arith, count, stand.count, ap length e, length-with_item (λ (x : Extent). x.addr) b bs);
-        bytes = omega (arith, bytes, stand.bytes, ap (sum_by (λ (x : Extent). x.len)) e, sum_by-with_item (λ (x : Extent). x.addr) (λ (x : Extent). x.len) b bs);
-        few = omega (arith, count, counted stand.few);
-        small = omega (arith, bytes, stand.small, small, length-append earlier (line ∷ []));
-      }
+      grind (arith, nat_tests, after, len_small, noted_first, answer_same, length-with_item, sum_by-with_item, counted, length-append)
 
   -- another answer notes nothing
   quiet_lens : ((n : Option ℕ) → AreBytesOf (Some line.answer) n) → (label : ℕ) → AreBytesOf (answer_to label (earlier ++ line ∷ [])) (bytes_of_label s.lens.items label)
@@ -168,12 +128,4 @@ module _ (s : Standing) (line : CallLine) (huge : ℕ) (round : ℕ → ℕ) (ea
         }
 
   pub told_other : IsQuiet line.answer → AreStanding (earlier ++ line ∷ []) s
-  told_other quiet =
-      let e : blocks_after (earlier ++ line ∷ []) ≡ blocks_after earlier = after ∙ quiet.same (blocks_after earlier) in
-      record {
-        lens = quiet_lens quiet.notes;
-        count = omega (arith, stand.count, ap length e);
-        bytes = omega (arith, stand.bytes, ap (sum_by (λ (x : Extent). x.len)) e);
-        few = omega (arith, counted stand.few);
-        small = omega (arith, stand.small, length-append earlier (line ∷ []));
-      }
+  told_other quiet = grind (arith, after, quiet_lens, counted, length-append)

@@ -1,14 +1,15 @@
 -- How the mark of a thread goes on.
-use Rattle.std.proofs.Common.{◌≡◌, ℕ, zero, suc, ◌+◌, ◌<◌, ◌≤◌, true, false, eqb, eq-eqb, get_or, List, [], ◌∷◌, ◌++◌, length, take, drop, map, Option, None, Some, refl, sym, ap, ◌∙◌, subst, arith, inl, inr}
+use Rattle.std.proofs.Common.{◌≡◌, ℕ, zero, suc, ◌+◌, ◌<◌, true, false, get_or, List, [], ◌∷◌, ◌++◌, length, take, drop, map, Option, None, Some, refl, sym, ap, ◌∙◌, arith, inl, inr}
 use Rattle.std.specs.Prelude.{option_map}
 use Rattle.std.specs.List.{slice_get, slice_set}
 use Rattle.std.proofs.lemmas.List.{append-nil, append_assoc, take_more, take-append-drop, length-map, length-set}
 use Rattle.std.proofs.lemmas.Option.{slice_get_within, slice_get-get_or, slice_get-map}
 use Rattle.tc_model.proofs.Lists.{set_here, set_elsewhere}
 use Rattle.tc_model.proofs.CallSteps.{picks-push_same, picks-push_other, calls_from-push}
-use Rattle.std.proofs.lemmas.Bool.{cases_eq, false≢true, eqb-true, ne_eqb, cond-true, cond-false}
+use Rattle.std.proofs.lemmas.Bool.{cases_eq, false≢true, eqb-true}
+use Rattle.std.proofs.lemmas.Bool.Decides.{nat_tests}
 use Rattle.tc_model.specs.declared.answers.CallLine.{CallLine}
-use Rattle.tc_model.specs.Calls.{AreRising, first_at, picks_of, answers_at, calls_from, calls_of, decided_by}
+use Rattle.tc_model.specs.Calls.{AreRising, first_at, picks_of, calls_of}
 use Rattle.tc_model.proofs.Rising.{rising_first}
 use Rattle.call_steps.specs.Local.{Decided, told}
 use Rattle.tc_machine.specs.declared.telling.Mark.{Mark}
@@ -43,42 +44,15 @@ module _ (answers : List Decided) (m : Mark) (mark : IsMark answers m) where
 
   pub line_told : (thread : ℕ) (line : CallLine) → Some line ≡ option_map (told thread) (slice_get answers m.told)
       → decides_next m.picks m.due ≡ true → line ∷ [] ≡ map (told thread) (decided_at m.picks answers)
-  line_told thread line is decided =
-      let d = due_here decided in
-      let same : Some line ≡ Some (told thread d.0) = is ∙ ap (option_map (told thread)) d.1 in
-      let e : line ≡ told thread d.0 = cc in
-      let first : first_at act_of m.picks (drop m.told answers) ≡ d.0 ∷ [] = ap (first_at act_of m.picks) (split_at answers m.told d.0 d.1) ∙ cond-true (eqb d.0.act m.picks) (d.0 ∷ []) [] (eq-eqb d.0.act m.picks d.2) in
-      ap (λ x. x ∷ []) e ∙ sym (ap (map (told thread)) (here ∙ first))
+  line_told thread line is decided = grind (arith, nat_tests, due_here, split_at, here)
 
   pub mark_told : {due : Option ℕ} → due ≡ due_at (m.told + 1) answers → decides_next m.picks m.due ≡ true → IsMark answers (record { picks = m.picks + 1; told = m.told + 1; due = due })
-  mark_told next decided =
-      let d = due_here decided in
-      let rest : drop m.told answers ≡ d.0 ∷ drop (m.told + 1) answers = split_at answers m.told d.0 d.1 in
-      let rising : AreRising act_of m.picks (d.0 ∷ drop (m.told + 1) answers) = subst (AreRising act_of m.picks) rest mark.behind in
-      record {
-        within = omega (arith, slice_get_within answers m.told d.0 d.1);
-        few = omega (arith, mark.few);
-        due = next;
-        behind = subst (λ n. AreRising act_of (n + 1) (drop (m.told + 1) answers)) d.2 rising.1;
-        later = λ n from.
-            let other : eqb d.0.act n ≡ false = ne_eqb d.0.act n (λ same. absurd (omega (arith, from, same, d.2))) in
-            mark.later n (omega (arith, from)) ∙ (ap (decided_at n) rest ∙ cond-false (eqb d.0.act n) (d.0 ∷ decided_at n (drop (m.told + 1) answers)) (decided_at n (drop (m.told + 1) answers)) other);
-      }
+  mark_told next decided = grind (arith, nat_tests, due_here decided, split_at answers m.told, slice_get_within answers m.told)
 
   -- the next pick decided nothing
   first_behind : (o : Option Decided) → slice_get answers m.told ≡ o → decides_next m.picks (option_map act_of o) ≡ false
       → (first_at act_of m.picks (drop m.told answers) ≡ []) × AreRising act_of (m.picks + 1) (drop m.told answers)
-  first_behind None at is =
-      let none = past_all answers m.told at in
-      (ap (first_at act_of m.picks) none, subst (AreRising act_of (m.picks + 1)) (sym none) tt)
-  first_behind (Some d) at is =
-      let rest : drop m.told answers ≡ d ∷ drop (m.told + 1) answers = split_at answers m.told d at in
-      let rising : AreRising act_of m.picks (d ∷ drop (m.told + 1) answers) = subst (AreRising act_of m.picks) rest mark.behind in
-      let above : m.picks + 1 ≤ d.act = elim (cases_eq d.act m.picks) [
-        | inl same ↦ absurd (false≢true (sym is ∙ eq-eqb d.act m.picks same))
-        | inr other ↦ (let low = rising.0 in omega (arith, low, other))
-      ] in
-      (ap (first_at act_of m.picks) rest ∙ cond-false (eqb d.act m.picks) (d ∷ []) [] is, subst (AreRising act_of (m.picks + 1)) (sym rest) (above, rising.1))
+  first_behind o at is = grind (arith, nat_tests, past_all, split_at, false≢true)
 
   module _ (undecided : decides_next m.picks m.due ≡ false) where
     behind_here : (first_at act_of m.picks (drop m.told answers) ≡ []) × AreRising act_of (m.picks + 1) (drop m.told answers)
@@ -101,14 +75,7 @@ module _ {L : Type 0} (answers : L → List Decided) where
 
   pub first_marks : (locals : List L) (marks : List Mark) → marks ≡ map (λ l. first_mark (answers l)) locals
       → ((t : ℕ) (l : L) → slice_get locals t ≡ Some l → AreRising act_of 0 (answers l)) → AreMarks locals marks []
-  first_marks locals marks is rising =
-      record {
-        count = ap length is ∙ length-map locals (λ l. first_mark (answers l));
-        each = λ u k m local mark.
-            let same : Some (first_mark (answers k)) ≡ Some m = sym (ap (option_map (λ l. first_mark (answers l))) local) ∙ (sym (slice_get-map (λ l. first_mark (answers l)) locals u) ∙ (ap (λ xs. slice_get xs u) (sym is) ∙ mark)) in
-            let e : first_mark (answers k) ≡ m = cc in
-            subst (λ (x : Mark). (x.picks ≡ 0) × IsMark (answers k) x) e (refl, record { within = omega arith; few = omega arith; due = refl; behind = rising u k local; later = λ n from. refl });
-      }
+  first_marks locals marks is rising = grind (arith, length-map, slice_get-map)
 
   -- one pick more
   pub next_marks : (locals : List L) (marks : List Mark) (past : List ℕ) (t : ℕ) (k : L) (m m' : Mark) → AreMarks locals marks past
@@ -118,13 +85,7 @@ module _ {L : Type 0} (answers : L → List Decided) where
       record {
         count = length-set marks t m' ∙ are.count;
         each = λ u l x there at. elim (cases_eq t u) [
-          | inl same ↦
-              let e : Some m' ≡ Some x = sym (set_here marks t m' m mark) ∙ (ap (λ v. slice_get (slice_set marks t m') v) same ∙ at) in
-              let d : m' ≡ x = cc in
-              let f : Some k ≡ Some l = sym local ∙ (ap (slice_get locals) same ∙ there) in
-              let g : k ≡ l = cc in
-              let n : picks_of u (past ++ t ∷ []) ≡ picks_of t past + 1 = ap (λ v. picks_of v (past ++ t ∷ [])) (sym same) ∙ picks-push_same t past in
-              (omega (arith, ap (λ (y : Mark). y.picks) d, picks, (are.each t k m local mark).0, n), subst (λ (y : Mark). IsMark (answers l) y) d (subst (λ (y : L). IsMark (answers y) m') g next))
+          | inl same ↦ grind (arith, set_here marks t m' m mark, picks-push_same t past, are.each t k m local mark)
           | inr apart ↦
               let old = are.each u l x there (sym (set_elsewhere marks t u m' apart) ∙ at) in
               (old.0 ∙ sym (picks-push_other u t past apart), old.1)
@@ -134,21 +95,12 @@ module _ {L : Type 0} (answers : L → List Decided) where
   -- the calls of more picks stand behind those of fewer
   pub told_prefix : (locals : List L) (past more : List ℕ) → (later : List CallLine) × (calls_of answers act_of told locals (past ++ more) ≡ calls_of answers act_of told locals past ++ later)
   told_prefix locals past [] = ([], ap (calls_of answers act_of told locals) (append-nil past) ∙ sym (append-nil (calls_of answers act_of told locals past)))
-  told_prefix locals past (t ∷ ts) =
-      let decided = decided_by answers act_of told locals in
-      let calls = calls_of answers act_of told locals in
-      let next = decided t (picks_of t [] + picks_of t past) in
-      let rest = told_prefix locals (past ++ t ∷ []) ts in
-      (next ++ rest.0, ap calls (sym (append_assoc past (t ∷ []) ts)) ∙ (rest.1 ∙ (ap (λ xs. xs ++ rest.0) (calls_from-push decided [] past t) ∙ append_assoc (calls past) next rest.0)))
+  told_prefix locals past (t ∷ ts) = grind (arith, told_prefix locals (past ++ t ∷ []) ts, append_assoc, calls_from-push)
 
   -- what the next pick of thread t adds to the calls
   pub told_next : (locals : List L) (past : List ℕ) (t n : ℕ) (k : L) (added : List CallLine) → slice_get locals t ≡ Some k → n ≡ picks_of t past → added ≡ map (told t) (decided_at n (answers k)) →
       calls_of answers act_of told locals (past ++ t ∷ []) ≡ calls_of answers act_of told locals past ++ added
-  told_next locals past t n k added local picks is =
-      let decided = decided_by answers act_of told locals in
-      let number : picks_of t [] + picks_of t past ≡ n = omega (arith, picks) in
-      let same : decided t n ≡ added = ap (λ o. map (told t) (decided_at n (answers_at answers o))) local ∙ sym is in
-      calls_from-push decided [] past t ∙ ap (λ xs. calls_from decided [] past ++ xs) (ap (decided t) number ∙ same)
+  told_next locals past t n k added local picks is = grind (arith, calls_from-push)
 
   -- a call that the next pick decided stands behind those before it, and before those of later picks
   pub told_split : (locals : List L) (order : List ℕ) (i : ℕ) (line : CallLine) → i < length order

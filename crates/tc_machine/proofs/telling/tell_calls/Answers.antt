@@ -83,24 +83,16 @@ loop-thread-preserved g c =
     told_next g.T.Teller.answers locals past t m.picks k (option_to_list c.next_line.result) local (are.each t k m local mark).0 c.next_line.ensures.line in
     let heard = g.L.Listener.heard c.args.listener in
     elim c.match-next_line.branch [
-      | in-Some+in_ok-hear w ↦
-          let line = w.in-Some.line in
-          let now : calls (past ++ t ∷ []) ≡ calls past ++ line ∷ [] = added ∙ ap (λ o. calls past ++ option_to_list o) w.in-Some.is in
-          let split = told_split g.T.Teller.answers locals order i line c.loop-thread-test.true now in
-          let few : length (calls past) < 40000000 = omega (arith, c.loop-thread.invariant.2, c.loop-thread.invariant.3, c.requires.few, c.loop-thread-test.true) in
-          let next = w.in_ok-hear.ensures c.args.listener (calls past) c.loop-thread.invariant.1 (c.requires.may (calls past) line split.0 split.1 few) in
-          let all : calls past ++ line ∷ [] ≡ calls (take (i + 1) order) = sym now ∙ ap calls more in
-          let count = length-append (calls past) (line ∷ []) in (
-            marks,
-            subst (λ l. heard l (calls (take (i + 1) order))) (sym w.listener-is) (subst (heard w.hear.new.self) all next),
-            omega (arith, w.count-is, c.loop-thread.invariant.2, ap length all, count),
-            omega (arith, w.count-is, c.loop-thread.invariant.3),
-          )
-      | in_default w ↦
-          let all : calls past ≡ calls (take (i + 1) order) = sym (append-nil (calls past)) ∙ (ap (λ o. calls past ++ option_to_list o) (sym w.in_default.is) ∙ (sym added ∙ ap calls more)) in (
-            marks,
-            subst (λ l. heard l (calls (take (i + 1) order))) (sym w.listener-is) (subst (heard c.loop-thread.listener) all c.loop-thread.invariant.1),
-            omega (arith, w.count-is, c.loop-thread.invariant.2, ap length all),
-            omega (arith, w.count-is, c.loop-thread.invariant.3),
-          )
+      | in-Some+in_ok-hear w ↦ grind (
+        arith,
+        calls (past ++ t ∷ []),
+        calls past,
+        told_split g.T.Teller.answers locals order i,
+        w.in_ok-hear.ensures c.args.listener (calls past) c.loop-thread.invariant.1,
+        c.requires.may (calls past),
+        calls (take (i + 1) order),
+        length-append (calls past),
+        heard w.hear.new.self,
+      )
+      | in_default w ↦ grind (arith, calls past, calls (take (i + 1) order), append-nil (calls past), heard c.loop-thread.listener)
     ]

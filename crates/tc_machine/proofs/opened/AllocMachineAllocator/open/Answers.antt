@@ -4,8 +4,7 @@ use Rattle.tc_model.specs.Run.{world_of, start}
 use Rattle.call_steps.specs.declared.setting.Setting.{Setting}
 use Rattle.trace_reader.specs.declared.trace.Trace.{Trace}
 use Rattle.trace_reader.specs.Valid.{IsConfig}
-use Rattle.alloc_rules.specs.Inputs.{IsValidInput, not_taken}
-use Rattle.alloc_rules.specs.Machine.{parts_of, rules, turns}
+use Rattle.alloc_rules.specs.Machine.{parts_of, rules}
 use Rattle.tc_machine.specs.Inputs.{input_under}
 use Rattle.tc_machine.specs.Opening.{locals_at, parts_at}
 use Rattle.tc_machine.proofs.InputFacts.{threads_are, turns_are, start_is}
@@ -32,14 +31,7 @@ invariant_of-machine g c =
     let asked = c.requires.read.0 in
     let read = c.requires.read.1 in
     let config : IsConfig c.args.trace.config = subst IsConfig (sym (ap (λ (t : Trace). t.config) read.is)) read.valid.config in
-    let seen : c.args.trace ≡ c.of-seen.result.value = sym c.of-seen.ensures in
-    let setting : Setting = record { table = rows; config = c.args.trace.config } in
-    record {
-      few = (config Events).1;
-      same_turns = turns_are rows (length rows) c.args.trace asked read ∙ ap (λ (t : Trace). turns (input_under setting t).asked) seen;
-      valid = subst (λ (t : Trace). IsValidInput (input_under setting t)) seen (valid_read rows c.args.trace asked c.in_ok-parts.ensures.table read);
-      taken = subst (λ (t : Trace). not_taken g.F.LawfulFront.takes (input_under setting t).asked.calls ≡ 0) seen c.requires.taken;
-    }
+    grind (arith, config Events, turns_are rows (length rows) c.args.trace asked read, valid_read rows c.args.trace asked c.in_ok-parts.ensures.table read)
 
 pub returns-clause-input : goal.returns-clause-input
 returns-clause-input g c =

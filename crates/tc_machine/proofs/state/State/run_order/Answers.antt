@@ -1,28 +1,17 @@
-use Rattle.std.proofs.Common.{◌≡◌, ap, arith}
-use Rattle.tc_machine.specs.Played.{Played}
+use Rattle.std.proofs.Common.{arith}
 use Rattle.tc_machine.proofs.state.State.run_order.Goals as goal
 
 pub run_order-requires : goal.run_order-requires
-run_order-requires g c k d within =
-    let many = g.met.M.Allocator.as_many c.self.inside.replay.machine in
-    omega (arith, c.requires k d within, ap (λ (p : Played _). p.input.asked.config.threads) c.self.view_is, many)
+run_order-requires g c k d within = grind (arith)
 
 pub returns-clause-ok : goal.returns-clause-ok
-returns-clause-ok g c =
-    let m = c.self.inside.replay.machine in
-    rw (← c.self.view_is, ← g.met.M.Allocator.same_rules m, ← g.met.M.Allocator.same_turns m, ← c.self.invariant) c.run_order.ensures.ok
+returns-clause-ok g c = grind (arith)
 
 pub returns-clause-ended : goal.returns-clause-ended
 returns-clause-ended g c = rw (c.run_order.ensures.machine, ← g.met.M.Allocator.same_rules c.self.inside.replay.machine) c.run_order.ensures.ended
 
 pub returns-clause-fault : goal.returns-clause-fault
-returns-clause-fault g c =
-    let m = c.self.inside.replay.machine in
-    rw (← c.self.view_is, ← g.met.M.Allocator.same_rules m, ← g.met.M.Allocator.same_turns m, ← c.self.invariant) c.run_order.ensures.err
+returns-clause-fault g c = grind (arith, g.met.M.Allocator.same_rules, g.met.M.Allocator.same_turns)
 
 pub returns-clause-lawful : goal.returns-clause-lawful
-returns-clause-lawful g c =
-    let r = c.run_order.new.self in
-    let run = c.run_order.ensures in
-    let same : (g.M.Allocator.input r.machine).asked.config.events ≡ r.limit = rw (run.limit, c.self.invariant, run.machine) in
-    g.met.M.Allocator.is_lawful r.machine r.order.items (rw (g.met.M.Allocator.same_rules r.machine) at r.moves) (omega (arith, r.few, same))
+returns-clause-lawful g c = grind (arith)
