@@ -1,10 +1,10 @@
 -- The fields of a record by their places.
-use Rattle.std.proofs.Common.{◌≡◌, ◌≢◌, ℕ, ◌<◌, ◌≤◌, false, zero, suc, List, [], ◌∷◌, length, None, Some, Bor, refl, sym, subst, arith}
-use Rattle.std.specs.Prelude.{Option, option_map, Err, IsSome, nat_lt}
+use Rattle.std.proofs.Common.{◌≡◌, ◌≢◌, ℕ, ◌<◌, ◌≤◌, zero, suc, List, [], ◌∷◌, length, None, Some, Bor, refl, arith}
+use Rattle.std.specs.Prelude.{Option, option_map, Err, IsSome}
 use Rattle.csv.specs.Records.{field_at}
 use Rattle.tc_units.specs.Decimal.{number_of}
 use Rattle.size_classes.specs.declared.fault.RowWhy.TheVariants as why
-use Rattle.size_classes.specs.Table.{check_fields, check_three, check_record, most_number}
+use Rattle.size_classes.specs.Table.{check_three, check_record, most_number}
 use Rattle.std.proofs.lemmas.Bool.Decides.{nat_tests}
 
 -- there is a field at each place below their number
@@ -17,9 +17,7 @@ field_there (f ∷ fields) (suc i) within = field_there fields i (omega arith)
 -- what a look-up of such a place gives
 pub found_there : (fields : List (List ℕ)) (i : ℕ) (found : Option (Bor (List ℕ)))
     → i < length fields → option_map (λ (s : Bor (List ℕ)). s.now) found ≡ field_at fields i → IsSome found
-found_there fields i None within is =
-    let P : Option (List ℕ) → Type 0 = λ o. IsSome o in
-    subst P (sym is) (field_there fields i within)
+found_there fields i None within is = grind (arith, field_there fields i within)
 found_there fields i (Some f) within is = refl
 
 -- three fields by their places
@@ -32,22 +30,14 @@ three_fields (x ∷ y ∷ []) a b c three first second third = absurd (omega ari
 three_fields (x ∷ y ∷ z ∷ []) a b c three first second third = cc
 three_fields (x ∷ y ∷ z ∷ w ∷ more) a b c three first second third = absurd (omega arith)
 
--- any other number of fields breaks the first rule
-pub not_three : (above : ℕ) (fields : List (List ℕ)) → length fields ≢ 3 → check_fields above fields ≡ Err why.Fields
-not_three above x1 other = grind (arith)
-
 -- the rules on three fields, by their numbers
 pub three_numbers : (row above : ℕ) (fields : List (List ℕ)) (a b c : List ℕ) (x y z : Option ℕ) → row ≤ 120 → length fields ≡ 3
     → field_at fields 0 ≡ Some a → field_at fields 1 ≡ Some b → field_at fields 2 ≡ Some c
     → x ≡ number_of most_number a → y ≡ number_of most_number b → z ≡ number_of most_number c
     → check_record row above fields ≡ check_three above x y z
 three_numbers row above fields a b c x y z few three first second third size pages batch =
-    let all : fields ≡ a ∷ b ∷ c ∷ [] = three_fields fields a b c three first second third in
-    let below : nat_lt 120 row ≡ false = grind (arith, nat_tests) in
-    rw (below, all, size, pages, batch) refl
+    grind (arith, nat_tests, three_fields fields a b c three first second third)
 
 -- any other number of fields, at a row that there may be
 pub other_fields : (row above : ℕ) (fields : List (List ℕ)) → row ≤ 120 → length fields ≢ 3 → check_record row above fields ≡ Err why.Fields
-other_fields row above fields few other =
-    let below : nat_lt 120 row ≡ false = grind (arith, nat_tests) in
-    rw below (not_three above fields other)
+other_fields row above fields few other = grind (arith)

@@ -1,16 +1,14 @@
 -- What a reader of a text has yet to give, and what a table is read as so far.
-use Rattle.std.proofs.Common.{◌≡◌, ℕ, ◌+◌, ◌-◌, ◌<◌, ◌≤◌, zero, suc, Bool, true, false, cond, List, [], ◌∷◌, ◌++◌, length, None, Some, Ok, Err, Bor, refl, sym, ap, subst, ◌∙◌, arith}
-use Rattle.std.specs.Prelude.{Option, Result, ◌==◌, if◌then◌else◌}
+use Rattle.std.proofs.Common.{◌≡◌, ℕ, ◌+◌, ◌-◌, ◌<◌, ◌≤◌, zero, suc, Bool, true, false, cond, List, [], ◌∷◌, ◌++◌, length, None, Some, Ok, Err, Bor, refl, ap, ◌∙◌, arith}
+use Rattle.std.specs.Prelude.{Option, Result}
 use Rattle.std.proofs.lemmas.List.{length_push}
-use Rattle.std.proofs.lemmas.Bool.{ne_eqb, false≢true}
+use Rattle.std.proofs.lemmas.Bool.Decides.{nat_tests}
 use Rattle.csv.specs.declared.parser.State.{State}
 use Rattle.csv.specs.declared.parser.State.TheVariants as st
 use Rattle.csv.specs.declared.parser.Action.{Action}
-use Rattle.csv.specs.declared.parser.Action.TheVariants as act
-use Rattle.csv.specs.declared.parser.Terminator.TheVariants as term
 use Rattle.csv.specs.declared.reader.Reader.{Reader}
 use Rattle.csv.specs.declared.reader.Trim.TheVariants as trim
-use Rattle.csv.specs.Machine.{Read, next_record, ends_at_end, step, is_end, fields_after, field_after, in_field, start_field, start_record, after_end, ends_with}
+use Rattle.csv.specs.Machine.{Read, next_record, ends_at_end, step, is_end, fields_after, field_after}
 use Rattle.csv.specs.Reading.{Ready, Reached, ReadRecord, default_config, records, records_from, records_next, source_of, strip_bom}
 use Rattle.csv.proofs.ReadFacts.{rows-more, rows-end}
 use Rattle.tc_units.specs.declared.spans.ClassRow.{ClassRow}
@@ -18,36 +16,13 @@ use Rattle.size_classes.specs.declared.fault.TableFault.{TableFault}
 use Rattle.size_classes.specs.declared.fault.TableFault.TheVariants.{BadRow}
 use Rattle.size_classes.specs.declared.fault.RowWhy.{RowWhy}
 use Rattle.size_classes.specs.declared.fault.RowWhy.TheVariants as why
-use Rattle.size_classes.specs.Rows.{IsRow, AreRows, IsTable}
-use Rattle.size_classes.specs.Table.{table_of, rows_from, rows_after, with_row, check_record}
+use Rattle.size_classes.specs.Rows.{IsRow, AreRows}
+use Rattle.size_classes.specs.Table.{table_of, rows_from, with_row, check_record}
 use Rattle.size_classes.proofs.Sizes.{last_size, rows_push, last_push}
 
 -- a step that ends a record leaves a state in which a text may end
 record Leaves (p : State × Action) : Type 0 where
   leaves : is_end p.1 ≡ true → ends_at_end p.0 ≡ false
-
-leaves_if : (b : Bool) (x y : State × Action) → Leaves x → Leaves y → Leaves (if b then x else y)
-leaves_if true x y p q = p
-leaves_if false x y p q = q
-
-after_end_ends : (c : ℕ) → ends_at_end (after_end term.CRLF c) ≡ false
-after_end_ends c = elim (c == 13) as (λ b. ends_at_end (if b then st.AfterCr else st.StartRecord) ≡ false) [ true ↦ refl | false ↦ refl ]
-
-in_field_leaves : (c : ℕ) → Leaves (in_field default_config c)
-in_field_leaves c =
-    leaves_if (c == 44) (st.StartField, act.EndField) (if ends_with term.CRLF c then (after_end term.CRLF c, act.EndRecord) else (st.InField, act.Copy))
-    (record { leaves = λ e. absurd (false≢true e) })
-    (leaves_if (ends_with term.CRLF c) (after_end term.CRLF c, act.EndRecord) (st.InField, act.Copy)
-    (record { leaves = λ e. after_end_ends c })
-    (record { leaves = λ e. absurd (false≢true e) }))
-
-start_field_leaves : (c : ℕ) → Leaves (start_field default_config c)
-start_field_leaves c =
-    leaves_if (c == 34) (st.InQuoted, act.Skip) (in_field default_config c) (record { leaves = λ e. absurd (false≢true e) }) (in_field_leaves c)
-
-start_record_leaves : (c : ℕ) → Leaves (start_record default_config c)
-start_record_leaves c =
-    leaves_if (ends_with term.CRLF c) (st.StartRecord, act.Skip) (start_field default_config c) (record { leaves = λ e. absurd (false≢true e) }) (start_field_leaves c)
 
 step_leaves : (s : State) (c : ℕ) → Leaves (step default_config s c)
 step_leaves x0 c = grind (arith)
@@ -68,31 +43,10 @@ record Fell (p : Read) (left : ℕ) : Type 0 where
 falls : (s : State) (fields : List (List ℕ)) (field xs : List ℕ) (p : Read)
     → next_record default_config s fields field xs ≡ Some p → Fell p (length xs + one_more s)
 unfolding next_record
-falls s fields field [] p is =
-    let last : Read = (fields ++ (field ∷ []), st.StartRecord, []) in
-    elim (ends_at_end s) as (λ b. ◌≡◌ {A = Option Read} (if b then Some last else None) (Some p) → Fell p (0 + cond b 1 0)) [
-      | true ↦ λ e.
-          let same : last ≡ p = cc in
-          let P : Read → Type 0 = λ r. Fell r 1 in
-          subst P same (record { ended = refl; less = omega arith })
-      | false ↦ λ e. cc
-    ] is
+falls s fields field [] p is = grind (arith)
 falls s fields field (c ∷ rest) p is =
     let on : State × Action = step default_config s c in
-    let last : Read = (fields_after on.1 fields field, on.0, rest) in
-    let most : one_more on.0 ≤ 1 = most_one (ends_at_end on.0) in
-    elim (is_end on.1) as (λ b. is_end on.1 ≡ b
-    → ◌≡◌ {A = Option Read} (if b then Some last else next_record default_config on.0 (fields_after on.1 fields field) (field_after on.1 c field) rest) (Some p)
-    → Fell p (length (c ∷ rest) + one_more s)) [
-      | true ↦ λ ends e.
-          let same : last ≡ p = cc in
-          let P : Read → Type 0 = λ r. Fell r (length (c ∷ rest) + one_more s) in
-          subst P same (record { ended = (step_leaves s c).leaves ends; less = omega arith })
-      | false ↦ λ goes e.
-          let more : Fell p (length rest + one_more on.0) = falls on.0 (fields_after on.1 fields field) (field_after on.1 c field) rest p e in
-          let less : length p.2 + 1 ≤ length rest + one_more on.0 = more.less in
-          record { ended = more.ended; less = omega arith }
-    ] refl is
+    grind (arith, falls on.0 (fields_after on.1 fields field) (field_after on.1 c field) rest p, most_one (ends_at_end on.0), step_leaves s c)
 
 records_step : (fuel : ℕ) (s : State) (xs : List ℕ) (p : Read) → 0 < fuel → next_record default_config s [] [] xs ≡ Some p
     → records_from default_config fuel s xs ≡ p.0 ∷ records_from default_config (fuel - 1) p.1 p.2
@@ -144,22 +98,7 @@ unread_more a b f rest u r ready kept =
     let some : 0 < u.fuel = omega arith in
     let step = records_step u.fuel a.state u.text p some is in
     let whole : rest ≡ records_from default_config u.fuel a.state u.text = u.rest_is in
-    let none : one_more b.state ≡ 0 = ap (λ (b : Bool). cond b 1 0) (ap ends_at_end (sym state) ∙ fell.ended) in
-    let same : length p.2 ≡ length z = ap length left in (
-      records_from default_config (u.fuel - 1) b.state z,
-      cc,
-      record {
-        text = z;
-        fuel = u.fuel - 1;
-        source = g.1;
-        enough = omega arith;
-        rest_is = refl;
-        config = r.2 ∙ u.config;
-        plain = r.3 ∙ u.plain;
-        loose = kept ∙ u.loose;
-        ready = ready;
-      },
-    )
+    grind (arith)
 
 -- the reader had none
 pub unread_end : (a b : Reader (Bor (List ℕ))) (f : List (List ℕ)) (rest : List (List (List ℕ)))
@@ -172,17 +111,7 @@ pub unread_start : (rdr : Reader (Bor (List ℕ))) (text : List ℕ) → source_
     → rdr.config ≡ default_config → rdr.trim ≡ trim.None → rdr.flexible ≡ true → Ready rdr → Unread rdr (records default_config text)
 unread_start rdr text source state config plain loose ready =
     let none : one_more rdr.state ≡ 0 = ap one_more state in
-    record {
-      text = text;
-      fuel = length text + 1;
-      source = source;
-      enough = omega arith;
-      rest_is = ap (λ (s : State). records_from default_config (length text + 1) s text) (sym state);
-      config = config;
-      plain = plain;
-      loose = loose;
-      ready = ready;
-    }
+    grind (arith)
 
 -- rows and then those that a reading gives, or its fault
 abbrev with_rows : List ClassRow → Result (List ClassRow) TableFault → Result (List ClassRow) TableFault
@@ -227,52 +156,20 @@ pub going_more : (bytes : List ℕ) (a b : Reader (Bor (List ℕ))) (rows : List
     → IsRow row → above < row.size → length rows + 1 ≤ 120 → Going bytes b (rows ++ row ∷ []) row.size
 going_more bytes a b rows above f row so r ready kept checked rules rises few =
     let u = unread_more a b f so.rest so.unread r ready kept in
-    let longer : length (rows ++ row ∷ []) ≡ length rows + 1 = length_push rows row in
-    let more : ℕ → Result (List ClassRow) TableFault = λ size. rows_from (length rows + 1 + 1) size u.0 in
-    let above_is : above ≡ last_size 0 rows = so.last in
-    record {
-      rest = u.0;
-      unread = u.2;
-      read =
-          so.read
-          ∙ ap (λ (l : List (List (List ℕ))). with_rows rows (rows_from (length rows + 1) above l)) u.1
-          ∙ ap (λ (c : Result ClassRow RowWhy). with_rows rows (rows_after (length rows + 1) c more)) checked
-          ∙ with_rows_push rows row (more row.size)
-          ∙ ap (λ (n : ℕ). with_rows (rows ++ row ∷ []) (rows_from (n + 1) row.size u.0)) (sym longer);
-      last = sym (last_push 0 rows row);
-      rules = rows_push 0 rows row so.rules rules (omega arith);
-      few = omega arith;
-    }
+    grind (arith, length_push rows row, with_rows_push rows row, last_push 0 rows row, rows_push 0 rows row so.rules rules)
 
 pub going_bad : (bytes : List ℕ) (a b : Reader (Bor (List ℕ))) (rows : List ClassRow) (above : ℕ) (f : List (List ℕ)) (rule : RowWhy)
     → Going bytes a rows above → ReadRecord told a b true f → Ready b → b.flexible ≡ a.flexible → check_record (length rows + 1) above f ≡ Err rule
     → table_of bytes ≡ Err (BadRow (length rows + 1) rule)
 going_bad bytes a b rows above f rule so r ready kept checked =
-    let u = unread_more a b f so.rest so.unread r ready kept in
-    let more : ℕ → Result (List ClassRow) TableFault = λ size. rows_from (length rows + 1 + 1) size u.0 in
-    so.read
-    ∙ ap (λ (l : List (List (List ℕ))). with_rows rows (rows_from (length rows + 1) above l)) u.1
-    ∙ ap (λ (c : Result ClassRow RowWhy). with_rows rows (rows_after (length rows + 1) c more)) checked
-    ∙ with_rows_fault rows (BadRow (length rows + 1) rule)
+    grind (arith, unread_more a b f so.rest so.unread r ready kept, with_rows_fault rows (BadRow (length rows + 1) rule))
 
 -- what the end of the records makes of the rows
 pub going_end : (bytes : List ℕ) (a b : Reader (Bor (List ℕ))) (rows : List ClassRow) (above : ℕ) (f : List (List ℕ))
     → Going bytes a rows above → ReadRecord told a b false f → 0 < length rows → table_of bytes ≡ Ok rows
-going_end bytes a b rows above f so r some =
-    let none = unread_end a b f so.rest so.unread r in
-    so.read
-    ∙ ap (λ (l : List (List (List ℕ))). with_rows rows (rows_from (length rows + 1) above l)) none
-    ∙ ap (λ (t : Bool). with_rows rows (if t then Err (BadRow 1 why.Empty) else Ok [])) (ne_eqb (length rows + 1) 1 (omega arith))
-    ∙ with_rows_end rows
+going_end bytes a b rows above f so r some = grind (arith, nat_tests, unread_end a b f so.rest so.unread r, with_rows_end rows)
 
 pub going_empty : (bytes : List ℕ) (a b : Reader (Bor (List ℕ))) (rows : List ClassRow) (above : ℕ) (f : List (List ℕ))
     → Going bytes a rows above → ReadRecord told a b false f → length rows ≡ 0 → table_of bytes ≡ Err (BadRow 1 why.Empty)
-going_empty bytes a b [] above f so r empty =
-    let none = unread_end a b f so.rest so.unread r in
-    so.read ∙ ap (λ (l : List (List (List ℕ))). rows_from 1 above l) none
+going_empty bytes a b [] above f so r empty = grind (arith, unread_end a b f so.rest so.unread r)
 going_empty bytes a b (row ∷ rows) above f so r empty = absurd (omega arith)
-
-pub going_table : (bytes : List ℕ) (rdr : Reader (Bor (List ℕ))) (rows : List ClassRow) (above : ℕ)
-    → Going bytes rdr rows above → 0 < length rows → IsTable rows
-going_table bytes rdr rows above so some =
-    record { some = omega arith; most = so.few; rows_rise = so.rules }

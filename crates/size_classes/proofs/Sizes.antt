@@ -15,10 +15,7 @@ pub size_above : (above : ℕ) (rows : List ClassRow) (i : ℕ) → AreRows abov
     → above < get_or (sizes_of rows) i 0
 size_above above [] i rise within = absurd (omega arith)
 size_above above (row ∷ rows) zero rise within = rise.1
-size_above above (row ∷ rows) (suc i) rise within =
-    let later = size_above row.size rows i rise.2 (omega arith) in
-    let here : above < row.size = rise.1 in
-    omega arith
+size_above above (row ∷ rows) (suc i) rise within = grind (arith, size_above row.size rows i rise.2)
 
 -- the sizes rise with the places
 pub sizes_rise : (above : ℕ) (rows : List ClassRow) (i j : ℕ) → AreRows above rows → i ≤ j → j < length rows

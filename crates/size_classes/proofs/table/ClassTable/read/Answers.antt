@@ -1,8 +1,7 @@
-use Rattle.std.proofs.Common.{◌≡◌, ℕ, ◌+◌, ◌<◌, Bool, true, false, Ok, Err, List, [], ◌∷◌, ◌++◌, length, sym, ap, subst, ◌∙◌, arith, inl, inr}
+use Rattle.std.proofs.Common.{◌≡◌, ℕ, ◌+◌, ◌<◌, Bool, true, false, Ok, Err, List, [], ◌∷◌, ◌++◌, length, sym, ap, subst, ◌∙◌, arith, inl}
 use Rattle.std.proofs.lemmas.Grind.{common_steps}
-use Rattle.csv.specs.Reading.{ReadRecord, strip_bom}
+use Rattle.csv.specs.Reading.{ReadRecord}
 use Rattle.csv.specs.Records.{fields_of}
-use Rattle.csv.specs.declared.reader.ReaderBuilder.{ReaderBuilder}
 use Rattle.tc_units.specs.declared.spans.ClassRow.{ClassRow}
 use Rattle.size_classes.specs.declared.fault.TableFault.TheVariants.{BadRow}
 use Rattle.size_classes.specs.Table.{check_record}
@@ -10,17 +9,7 @@ use Rattle.size_classes.proofs.Progress.{told, going_start, going_more, going_ba
 use Rattle.size_classes.proofs.table.ClassTable.read.Goals as goal
 
 pub records-init : goal.records-init
-records-init c =
-    let made = c.from_reader-reader.ensures in
-    let named = c.has_headers.ensures in
-    let loose = c.flexible.ensures in
-    rw c.new-rows.ensures.items (
-    going_start c.args.bytes.now c.from_reader-reader.result (
-    unread_start c.from_reader-reader.result (strip_bom c.args.bytes.now) made.source made.state
-    (made.config ∙ ap (λ (b : ReaderBuilder). b.config) loose ∙ ap (λ (b : ReaderBuilder). b.config) named ∙ c.new.ensures.config)
-    (made.trim ∙ ap (λ (b : ReaderBuilder). b.trim) loose ∙ ap (λ (b : ReaderBuilder). b.trim) named ∙ c.new.ensures.trim)
-    (made.flexible ∙ ap (λ (b : ReaderBuilder). b.flexible) loose)
-    (inr (inr (made.has_headers ∙ ap (λ (b : ReaderBuilder). b.has_headers) loose ∙ ap (λ (b : ReaderBuilder). b.has_headers) named, made.headers)))))
+records-init c = grind (arith, going_start, unread_start)
 
 pub records-preserved : goal.records-preserved
 records-preserved c =
