@@ -1,5 +1,5 @@
 -- What the draws of a generated trace give stays in bounds.
-use Rattle.std.proofs.Common.{◌≡◌, ℕ, ◌+◌, ◌*◌, ◌%◌, ◌<◌, ◌≤◌, ◌==◌, ◌&&◌, not, nat_lt, Bool, true, false, if◌then◌else◌, List, [], ◌∷◌, length, arith}
+use Rattle.std.proofs.Common.{◌≡◌, ℕ, ◌+◌, ◌*◌, ◌%◌, ◌<◌, ◌≤◌, ◌==◌, ◌&&◌, not, nat_lt, Bool, true, if◌then◌else◌, List, [], ◌∷◌, length, arith}
 use Rattle.std.proofs.lemmas.Nat.{mod_below}
 use Rattle.trace_gen.specs.declared.kind.Kind.TheVariants.{Malloc, Free, Drain, Release}
 use Rattle.trace_gen.specs.Draws.{next_number, number_after, draw}
@@ -22,9 +22,7 @@ cpu-below threads n x some = mod_below (draw n x) (cpus_of threads) (omega arith
 
 -- a request has few bytes
 size-below : (small large : Bool) (drawn : ℕ) → drawn < 32768 → (if small then drawn % 1024 + 1 else (if large then drawn * 16 else drawn)) ≤ 1099511627776
-size-below true large drawn few = omega arith
-size-below false true drawn few = omega arith
-size-below false false drawn few = omega arith
+size-below small large drawn few = grind (arith)
 
 pub size_of-below : (n m x : ℕ) → size_of (draw n x % 16) (draw m x) ≤ 1099511627776
 size_of-below n m x = size-below (nat_lt (draw n x % 16) 12) (draw n x % 16 == 15) (draw m x) (draw-below m x)

@@ -1,6 +1,7 @@
 -- A line of a generated trace is read as what it says.
-use Rattle.std.proofs.Common.{◌≡◌, ℕ, ◌+◌, ◌^◌, ◌<◌, ◌≤◌, ◌&&◌, nat_lt, nat_le, true, false, if◌then◌else◌, List, [], ◌∷◌, map, codes, decimal, Some, None, Ok, refl, ap, ◌∙◌, arith, option_map, option_and_then, cond}
-use Rattle.std.proofs.lemmas.Bool.{le-ltb, le-leb, and_right}
+use Rattle.std.proofs.Common.{◌≡◌, ℕ, ◌+◌, ◌^◌, ◌<◌, ◌≤◌, ◌&&◌, true, false, List, [], ◌∷◌, map, codes, decimal, Some, Ok, refl, arith}
+use Rattle.std.proofs.lemmas.Bool.{le-leb, and_right}
+use Rattle.std.proofs.lemmas.Bool.Decides.{nat_tests}
 use Rattle.tc_model.specs.Input.{Asked}
 use Rattle.trace_reader.specs.declared.word.Word.{Word}
 use Rattle.trace_reader.specs.declared.word.Word.TheVariants as word
@@ -10,7 +11,7 @@ use Rattle.trace_reader.specs.Words.{Range, word_of, is_head, ranges_of}
 use Rattle.trace_reader.specs.Form.{number_in, numbers_in, form_with, form_of, has_fields}
 use Rattle.trace_reader.specs.Steps.{Fits}
 use Rattle.trace_reader.specs.Reading as reading
-use Rattle.trace_reader.specs.Reading.{SoFar, lacks_thread, lacks_cpu, lacks_class, label_used, label_unknown, label_freed, with_form, read_line, read_lines, and_then}
+use Rattle.trace_reader.specs.Reading.{SoFar, lacks_thread, lacks_cpu, lacks_class, label_used, label_unknown, label_freed, with_form, read_line, read_lines}
 use Rattle.trace_gen.specs.declared.line.Line.{Line}
 use Rattle.trace_gen.specs.declared.line.Line.TheVariants as line
 use Rattle.trace_gen.specs.Fields.{line_fields}
@@ -24,15 +25,11 @@ AreIn ranges ns = ⊥
 
 -- so they are read from their decimals
 number_in-decimal : (range : Range) (n : ℕ) → range.least ≤ n → n ≤ range.most → n < 2 ^ 64 → number_in range (decimal n) ≡ Some n
-number_in-decimal range n least most fits =
-    ap (option_and_then (λ m. if nat_le range.least m then Some m else None)) (number_of_decimal range.most n most fits)
-    ∙ ap (λ b. cond b (Some n) None) (le-leb range.least n least)
+number_in-decimal range n least most fits = grind (arith, number_of_decimal, le-leb)
 
 numbers_in-decimals : (ranges : List Range) (ns : List ℕ) → AreIn ranges ns → numbers_in ranges (map decimal ns) ≡ Some ns
 numbers_in-decimals [] [] are = refl
-numbers_in-decimals (range ∷ ranges) (n ∷ ns) are =
-    ap (option_and_then (λ m. option_map (λ more. m ∷ more) (numbers_in ranges (map decimal ns)))) (number_in-decimal range n are.0 are.1 are.2)
-    ∙ ap (option_map (λ more. n ∷ more)) (numbers_in-decimals ranges ns are.3)
+numbers_in-decimals (range ∷ ranges) (n ∷ ns) are = grind (arith, numbers_in-decimals ranges ns are.3, number_in-decimal)
 numbers_in-decimals [] (n ∷ ns) are = absurd are
 numbers_in-decimals (range ∷ ranges) [] are = absurd are
 
@@ -52,25 +49,14 @@ fails_none classes asked x2 fits = grind (arith)
 passes : (l : reading.Line) (w : Word) (form : Form) → l.number ≤ 1000000 → reading.first_word l.fields ≡ Some w → (l.before.late && is_head w) ≡ false
     → has_fields w (reading.other_fields l.fields) ≡ true → form_of w (reading.other_fields l.fields) ≡ Some form → FailsNone l.classes l.before.asked form
     → read_line l ≡ Ok (with_form l.number form l.before)
-passes l w form few named early has is none =
-    let lines : nat_lt 1000000 l.number ≡ false = le-ltb 1000000 l.number few in
-    let thread = none.thread in
-    let cpu = none.cpu in
-    let class_ = none.class in
-    let used = none.used in
-    let unknown = none.unknown in
-    let freed = none.freed in
-    rw (lines, named, early, has, is, thread, cpu, class_, used, unknown, freed) refl
+passes l w form few named early has is none = grind (arith, nat_tests)
 
 -- a word with numbers behind it is read, and the lines behind it are read behind its form
 pub reads_words : (classes number : ℕ) (before : SoFar) (name : List ℕ) (w : Word) (ns : List ℕ) (form : Form) (rest : List (List (List ℕ)))
     → number ≤ 1000000 → word_of name ≡ Some w → (before.late && is_head w) ≡ false → has_fields w (map decimal ns) ≡ true → AreIn (ranges_of w) ns
     → form_with w ns ≡ Some form → Fits classes before.asked form
     → read_lines classes before number ((name ∷ map decimal ns) ∷ rest) ≡ read_lines classes (with_form number form before) (number + 1) rest
-reads_words classes number before name w ns form rest few named early has are is fits =
-    let l : reading.Line = record { classes = classes; before = before; number = number; fields = name ∷ map decimal ns } in
-    let read = passes l w form few named early has (ap (option_and_then (form_with w)) (numbers_in-decimals (ranges_of w) ns are) ∙ is) (fails_none classes before.asked form fits) in
-    ap (λ r. and_then number r (λ after. read_lines classes after (number + 1) rest)) read
+reads_words classes number before name w ns form rest few named early has are is fits = grind (arith, passes, numbers_in-decimals, fails_none)
 
 -- what a generated line says
 abbrev pub form_for : Line → Form
