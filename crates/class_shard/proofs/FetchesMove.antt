@@ -1,21 +1,20 @@
 -- What a fetch leaves: the spans keep their pages, and objects only move.
 use Rattle.std.proofs.Common.{◌≡◌, ℕ, zero, suc, ◌+◌, ◌-◌, ◌<◌, ◌≤◌, Bool, true, false, List, [], ◌∷◌, length}
-use Rattle.std.proofs.Common.{get_or, set, take, drop, count_by, Option, Some, None, cond, refl, sym, ◌∙◌, ap, subst, inl, inr, arith}
+use Rattle.std.proofs.Common.{get_or, set, count_by, Option, Some, None, cond, refl, sym, ◌∙◌, ap, subst, arith}
 use Rattle.std.specs.Option.{option_map}
 use Rattle.std.proofs.lemmas.List.{length-reverse, length-drop}
 use Rattle.std.proofs.lemmas.List.Sums.{sum_by-cons, sum_by-append, sum_by-take-drop}
 use Rattle.std.proofs.lemmas.Option.{none-some, same_Some}
-use Rattle.std.proofs.lemmas.Bool.{cases_Bool, cond-true, cond-false}
+use Rattle.std.proofs.lemmas.Bool.Decides.{nat_tests}
 use Rattle.tc_units.specs.declared.units.Addr.{Addr}
 use Rattle.tc_units.specs.declared.spans.ClassRow.{ClassRow}
 use Rattle.span_list.specs.Span.{SpanState, address, least, with_object, taken_from, after_take}
 use Rattle.span_list.proofs.SpanFacts.{take_moves}
 use Rattle.central_free.specs.Central.{chosen, place_at, taken_one, taken_one_from, taken, and_then, IsOfRow, IsSound, free_in}
-use Rattle.central_free.proofs.ChoiceFacts.{IsAmong, chosen_among, place_at-is}
+use Rattle.central_free.proofs.ChoiceFacts.{chosen_among, place_at-is}
 use Rattle.central_free.proofs.SoundFacts.{has_pages, IsOfRow-after_take, IsSound-set, count-set}
-use Rattle.transfer_cache.specs.Transfer.{last_first, without_last}
 use Rattle.transfer_cache.proofs.TransferFacts.{sum_by-reverse}
-use Rattle.class_shard.specs.Shard.{Shard, with_objects, with_spans, is_idle, fetched, after_fetch, places}
+use Rattle.class_shard.specs.Shard.{Shard, is_idle, fetched, after_fetch, places}
 use Rattle.class_shard.proofs.SpanSums.{central_of, pages_of, pages-set}
 use Rattle.class_shard.specs.Laws.{spans_in, IsSame, IsFetched, FetchMoves}
 
@@ -44,9 +43,7 @@ module _ {row : ClassRow} {spans : List SpanState} (sound : IsSound (central_of 
         → option_map {U = Addr × List SpanState} (λ a. (a, set spans k (after_take s at))) (taken_from s at) ≡ Some one
         → IsMoved row spans one.1 (one.0 ∷ []) 1
     moved_from None one first gives = absurd (none-some one gives)
-    moved_from (Some i) one first gives =
-        let same : (address s i, set spans k (with_object s i false)) ≡ one = same_Some (address s i, set spans k (with_object s i false)) one gives in
-        subst (λ (p : Addr × List SpanState). IsMoved row spans p.1 (p.0 ∷ []) 1) same (moved_at i first)
+    moved_from (Some i) one first gives = grind (arith, same_Some (address s i, set spans k (with_object s i false)) one gives, moved_at i first)
 
   -- the same by the choice
   one_moved : (pick : Option SpanState) (one : Addr × List SpanState) → chosen spans ≡ pick → taken_one_from spans pick ≡ Some one → IsMoved row spans one.1 (one.0 ∷ []) 1
@@ -81,40 +78,15 @@ all_moved (suc n) row spans sound =
 -- what a fetch gives and leaves, under other names
 fetched_as : (n : ℕ) (s after : Shard) (objects : List Addr) → after_fetch n s ≡ after → fetched n s ≡ objects → IsSame s after → length objects ≤ n → spans_in after ≡ spans_in s
     → ((test : Addr → Bool) → count_by test (places after) + count_by test objects ≡ count_by test (places s)) → IsFetched n s
-fetched_as n s after objects left gave same few spans moves =
-    record {
-      same = subst (IsSame s) (sym left) same;
-      few = omega (arith, ap length gave, few);
-      spans = ap spans_in left ∙ spans;
-      moves = λ test. omega (arith, ap (λ t. count_by test (places t)) left, ap (count_by test) gave, moves test);
-    }
+fetched_as n s after objects left gave same few spans moves = grind (arith, moves)
 
 -- from the spans
 fetched_spans : (n : ℕ) (s : Shard) → IsSound s.central → is_idle s ≡ true → IsFetched n s
-fetched_spans n s sound idle =
-    let t = taken n s.central.spans in
-    let moved = all_moved n s.central.row s.central.spans sound in
-    let left = cond-true (is_idle s) (with_spans s t.spans) (with_objects s (without_last n s.transfer.objects)) idle in let gave = cond-true (is_idle s) t.objects (last_first n s.transfer.objects) idle in
-    fetched_as n s (with_spans s t.spans) t.objects left gave (record { class = refl; row = refl; room = refl; sound = moved.sound }) moved.few moved.spans (λ test.
-    let f : Addr → ℕ = λ a. cond {A = ℕ} (test a) 1 0 in
-    omega (arith, moved.moves test, sum_by-append f s.transfer.objects (free_in t.spans), sum_by-append f s.transfer.objects (free_in s.central.spans)))
+fetched_spans n s sound idle = grind (arith, nat_tests, all_moved n s.central.row s.central.spans sound, fetched_as n s, sum_by-append)
 
 -- from the transfer cache
 fetched_cached : (n : ℕ) (s : Shard) → IsSound s.central → is_idle s ≡ false → IsFetched n s
-fetched_cached n s sound some =
-    let t = taken n s.central.spans in
-    let all = s.transfer.objects in
-    let early = length all - n in
-    let free = free_in s.central.spans in
-    let short : length (last_first n all) ≤ n = omega (arith, length-reverse (drop early all), length-drop early all) in
-    let left = cond-false (is_idle s) (with_spans s t.spans) (with_objects s (without_last n all)) some in let gave = cond-false (is_idle s) t.objects (last_first n all) some in
-    fetched_as n s (with_objects s (without_last n all)) (last_first n all) left gave (record { class = refl; row = refl; room = refl; sound = sound }) short refl (λ test.
-    let f : Addr → ℕ = λ a. cond {A = ℕ} (test a) 1 0 in
-    omega (arith, sum_by-append f (take early all) free, sum_by-append f all free, sum_by-take-drop f all early, sum_by-reverse f (drop early all)))
+fetched_cached n s sound some = grind (arith, nat_tests, length-reverse, length-drop, fetched_as, sum_by-append, sum_by-take-drop, sum_by-reverse)
 
 pub fetch_moves : FetchMoves
-fetch_moves n s some sound =
-    elim (cases_Bool (is_idle s)) [
-      | inl idle ↦ fetched_spans n s sound idle
-      | inr filled ↦ fetched_cached n s sound filled
-    ]
+fetch_moves n s some sound = grind (arith, nat_tests, fetched_spans n s sound, fetched_cached n s sound)

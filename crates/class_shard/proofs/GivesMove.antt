@@ -6,16 +6,17 @@ use Rattle.std.specs.List.{flat_map, sum_by, remove}
 use Rattle.std.proofs.lemmas.List.{length-append, get_or_default}
 use Rattle.std.proofs.lemmas.List.Elements.{All-head}
 use Rattle.std.proofs.lemmas.List.Sums.{sum_by-cons, sum_by-append, sum_by-remove}
-use Rattle.std.proofs.lemmas.Bool.{cases_Bool, cases_eq, cond-true, cond-false}
+use Rattle.std.proofs.lemmas.Bool.{cases_eq}
+use Rattle.std.proofs.lemmas.Bool.Decides.{nat_tests}
 use Rattle.tc_units.specs.declared.units.Addr.{Addr}
 use Rattle.tc_units.specs.declared.spans.SpanRef.{SpanRef}
 use Rattle.tc_units.specs.declared.spans.ClassRow.{ClassRow}
-use Rattle.span_list.specs.Span.{SpanState, IsCut, IsTaken, first_byte, address, taken_count, with_object, after_put, free_objects, objects_of}
+use Rattle.span_list.specs.Span.{SpanState, IsCut, IsTaken, taken_count, after_put, free_objects, objects_of}
 use Rattle.span_list.proofs.SpanFacts.{index_found, put_moves, IsTaken-after_put}
 use Rattle.central_free.specs.Central.{Put, put_one, put_all, IsTakenIn, AreDifferent, IsOfRow, IsSound, free_in}
 use Rattle.central_free.proofs.PutFacts.{IsPlace, IsPlace-taken, put_stays, put_leaves, remove-set, IsPutOne, IsPutOne-stays, IsPutOne-leaves}
-use Rattle.class_shard.specs.Shard.{Shard, with_objects, with_spans, fits_in, after_give, freed_by, places}
-use Rattle.class_shard.specs.Laws.{spans_in, objects_in_spans, IsSame, IsGiven, GiveMoves}
+use Rattle.class_shard.specs.Shard.{Shard, with_spans, fits_in, after_give, freed_by, places}
+use Rattle.class_shard.specs.Laws.{spans_in, IsSame, IsGiven, GiveMoves}
 use Rattle.class_shard.proofs.SpanSums.{central_of, pages_of, pages-set, sum_by-map, objects_passing, count-objects}
 
 -- what one put leaves
@@ -30,13 +31,7 @@ record IsPutBack (s : SpanState) (a : Addr) (t : SpanState) : Type 0 where
   moves : (test : Addr → Bool) → count_by test (free_objects t) ≡ count_by test (free_objects s) + count_by test (a ∷ [])
 
 put_back : (s : SpanState) (a : Addr) → IsCut s → IsTaken s a → IsPutBack s a (after_put s a)
-put_back s a cut taken =
-    let i = taken.index in
-    let is : after_put s a ≡ with_object s i true = ap (λ j. with_object s j true) (index_found s a i (first_byte s.span) s.size cut.some taken.at refl refl) in
-    subst (IsPutBack s a) (sym is) (record {
-      kept = λ b there differ. IsTaken-after_put s a b i taken.at there differ;
-      moves = λ test. put_moves test (address s) s.free i a taken.taken taken.at;
-    })
+put_back s a cut taken = grind (arith, index_found, IsTaken-after_put, put_moves)
 
 -- a span leaves a sum
 sum-remove : (w : SpanRef → ℕ) (spans : List SpanState) (k : ℕ) (s : SpanState) → k < length spans
@@ -105,46 +100,17 @@ all_back (a ∷ others) row spans sound taken different =
 given_as : (list : List Addr) (s after : Shard) (freed : List SpanRef) → after_give list s ≡ after → freed_by list s ≡ freed → IsSame s after → length freed ≤ length list
     → ((w : SpanRef → ℕ) → sum_by w (spans_in after) + sum_by w freed ≡ sum_by w (spans_in s))
     → ((test : Addr → Bool) → count_by test (places after) + count_by test (flat_map (objects_of s.central.row.size) freed) ≡ count_by test (places s) + count_by test list) → IsGiven list s
-given_as list s after freed left gone same few spans moves =
-    let size = s.central.row.size in
-    record {
-      same = subst (IsSame s) (sym left) same;
-      few = omega (arith, ap length gone, few);
-      spans = λ test.
-          let w : SpanRef → ℕ = λ x. cond {A = ℕ} (test x) 1 0 in
-          omega (arith, ap (λ t. sum_by w (spans_in t)) left, ap (sum_by w) gone, spans w);
-      moves = λ test.
-          let freed_objects : List SpanRef → ℕ = λ xs. count_by test (flat_map (objects_of size) xs) in
-          omega (arith, ap (λ t. count_by test (places t)) left, ap freed_objects gone, moves test);
-      objects = λ test.
-          let freed_objects : List SpanRef → ℕ = λ xs. count_by test (flat_map (objects_of size) xs) in
-          let sizes = ap (λ (r : ClassRow). count_by test (flat_map (objects_of r.size) (spans_in after))) same.row in let counted = count-objects test size in
-          omega (arith, ap (λ t. count_by test (objects_in_spans t)) left, sizes, ap freed_objects gone, counted (spans_in after), counted freed, counted (spans_in s), spans (objects_passing test size));
-    }
+given_as list s after freed left gone same few spans moves = grind (arith, count-objects)
 
 given_cached : (list : List Addr) (s : Shard) → IsSound s.central → fits_in s list ≡ true → IsGiven list s
-given_cached list s sound fits =
-    let put = put_all list s.central.spans in
-    let objects = s.transfer.objects in
-    let free = free_in s.central.spans in
-    let left = cond-true (fits_in s list) (with_objects s (objects ++ list)) (with_spans s put.spans) fits in let gone = cond-true (fits_in s list) [] put.freed fits in
-    given_as list s (with_objects s (objects ++ list)) [] left gone (record { class = refl; row = refl; room = refl; sound = sound }) (omega arith) (λ w. omega arith) (λ test.
-    let f : Addr → ℕ = λ x. cond {A = ℕ} (test x) 1 0 in
-    omega (arith, sum_by-append f (objects ++ list) free, sum_by-append f objects list, sum_by-append f objects free))
+given_cached list s sound fits = grind (arith, nat_tests, given_as, sum_by-append)
 
 given_spans : (list : List Addr) (s : Shard) → IsSound s.central → All (IsTakenIn s.central.spans) list → AreDifferent list → fits_in s list ≡ false → IsGiven list s
 given_spans list s sound taken different over =
     let put = put_all list s.central.spans in
     let objects = s.transfer.objects in
     let back = all_back list s.central.row s.central.spans sound taken different in
-    let left = cond-false (fits_in s list) (with_objects s (objects ++ list)) (with_spans s put.spans) over in let gone = cond-false (fits_in s list) [] put.freed over in
-    given_as list s (with_spans s put.spans) put.freed left gone (record { class = refl; row = refl; room = refl; sound = back.sound }) back.few back.spans (λ test.
-    let f : Addr → ℕ = λ x. cond {A = ℕ} (test x) 1 0 in
-    omega (arith, back.moves test, sum_by-append f objects (free_in put.spans), sum_by-append f objects (free_in s.central.spans)))
+    grind (arith, nat_tests, given_as list s (with_spans s put.spans) put.freed, back.moves, sum_by-append)
 
 pub give_moves : GiveMoves
-give_moves list s sound taken different =
-    elim (cases_Bool (fits_in s list)) [
-      | inl fits ↦ given_cached list s sound fits
-      | inr over ↦ given_spans list s sound taken different over
-    ]
+give_moves list s sound taken different = grind (arith, nat_tests, given_cached list s sound, given_spans list s sound taken different)

@@ -1,5 +1,5 @@
 -- The objects that are out of a shard, where some come from it or go back to it.
-use Rattle.std.proofs.Common.{◌≡◌, ◌≢◌, ℕ, ◌+◌, ◌-◌, ◌<◌, List, ◌++◌, length, get_or, take, drop, reverse, sym, ◌∙◌, ap, subst, arith}
+use Rattle.std.proofs.Common.{◌≡◌, ◌≢◌, ℕ, ◌+◌, ◌-◌, List, ◌++◌, length, get_or, take, drop, reverse, sym, ◌∙◌, ap, subst, arith}
 use Rattle.std.specs.Prelude.{All}
 use Rattle.std.proofs.lemmas.List.{append_assoc, length-append, length-reverse, get_or-reverse, get_or_append_left, get_or-append-add, take-append-drop}
 use Rattle.std.proofs.lemmas.List.Elements.{All-append}
@@ -21,14 +21,10 @@ All-second P xs ys all = λ i d less. subst P (get_or-append-add xs ys i d) (all
 
 -- a fact of each, in the list turned round
 pub All-reverse : (P : Addr → Type 0) (xs : List Addr) → All P xs → All P (reverse xs)
-All-reverse P xs all = λ i d less.
-    (let within : i < length xs = omega (arith, length-reverse xs) in
-    subst P (sym (get_or-reverse xs i d within)) (all (length xs - 1 - i) d (omega arith)))
+All-reverse P xs all = grind (arith, length-reverse, get_or-reverse)
 
 AreDifferent-reverse : (xs : List Addr) → AreDifferent xs → AreDifferent (reverse xs)
-AreDifferent-reverse xs all = λ i j d less within same.
-    (let inside : j < length xs = omega (arith, length-reverse xs) in
-    all (length xs - 1 - j) (length xs - 1 - i) d (omega arith) (omega arith) (sym (get_or-reverse xs j d inside) ∙ sym same ∙ get_or-reverse xs i d (omega arith)))
+AreDifferent-reverse xs all = grind (arith, length-reverse, get_or-reverse)
 
 -- apart the other way round
 AreApart-sym : (xs ys : List Addr) → AreApart xs ys → AreApart ys xs

@@ -1,5 +1,5 @@
 -- How the spans of a shard are cut: where each object lies, that no two meet, and which of them are taken.
-use Rattle.std.proofs.Common.{◌≡◌, ℕ, zero, suc, ◌+◌, ◌*◌, ◌/◌, ◌<◌, ◌≤◌, ◌==◌, Bool, true, false, List, []}
+use Rattle.std.proofs.Common.{◌≡◌, ℕ, zero, suc, ◌+◌, ◌*◌, ◌<◌, ◌≤◌, ◌==◌, Bool, true, false, List, []}
 use Rattle.std.proofs.Common.{◌∷◌, length, get_or, map, replicate, count_by, Some, cond, refl, sym, ◌∙◌, ap, inl, inr, arith}
 use Rattle.std.specs.List.{flat_map, sum_by, range_with_len}
 use Rattle.std.proofs.lemmas.List.{get_or_default}
@@ -7,15 +7,14 @@ use Rattle.std.proofs.lemmas.List.FromFn.{length-map-range_with_len, get_or-map-
 use Rattle.std.proofs.lemmas.List.Sums.{sum_by-cons, sum_by-append, get_or-le-sum_by}
 use Rattle.std.proofs.lemmas.Option.{slice_get-get_or}
 use Rattle.std.proofs.lemmas.Nat.{mul-le}
-use Rattle.std.proofs.Math.Nat.{div-mul-le_self}
 use Rattle.std.proofs.lemmas.Bool.Decides.{nat_tests}
 use Rattle.std.proofs.lemmas.Bool.{cases_Bool, cases_lt, cases_order, eq-eqb}
 use Rattle.tc_units.specs.declared.units.Addr.{Addr}
 use Rattle.tc_units.specs.declared.spans.SpanRef.{SpanRef}
 use Rattle.tc_units.specs.declared.spans.ClassRow.{ClassRow}
-use Rattle.span_list.specs.Span.{SpanState, address, first_byte, objects_in, all_free, free_from, free_objects, objects_of}
-use Rattle.span_list.proofs.SpanFacts.{weight, free_from-set}
-use Rattle.central_free.specs.Central.{IsBefore, IsOfRow, IsSound, IsTakenIn, free_in}
+use Rattle.span_list.specs.Span.{SpanState, address, first_byte, objects_in, free_from, free_objects, objects_of}
+use Rattle.span_list.proofs.SpanFacts.{free_from-set}
+use Rattle.central_free.specs.Central.{IsOfRow, IsSound, IsTakenIn, free_in}
 use Rattle.central_free.specs.Slots.{no_span}
 use Rattle.central_free.proofs.AddFacts.{some_objects}
 use Rattle.central_free.proofs.SoundFacts.{count-flat_map}
@@ -76,14 +75,10 @@ free_from-all addr k zero = refl
 free_from-all addr k (suc n) = ap (λ xs. addr k ∷ xs) (free_from-all addr (k + 1) n)
 
 length-objects : (size : ℕ) (span : SpanRef) → length (objects_of size span) ≡ objects_in span.pages size
-length-objects size span =
-    let addr : ℕ → Addr = address (all_free span size) in
-    ap length (free_from-all addr 0 (objects_in span.pages size)) ∙ length-map-range_with_len addr 0 (objects_in span.pages size)
+length-objects size span = grind (arith, free_from-all, length-map-range_with_len)
 
 get_or-objects : (size : ℕ) (span : SpanRef) (i : ℕ) (d : Addr) → i < objects_in span.pages size → get_or (objects_of size span) i d ≡ addr_of (first_byte span + i * size)
-get_or-objects size span i d less =
-    let addr : ℕ → Addr = address (all_free span size) in
-    ap (λ xs. get_or xs i d) (free_from-all addr 0 (objects_in span.pages size)) ∙ get_or-map-range_with_len addr 0 (objects_in span.pages size) i i d less (omega arith)
+get_or-objects size span i d less = grind (arith, free_from-all, get_or-map-range_with_len)
 
 -- an address is that of an object of a span
 record IsObject (size : ℕ) (span : SpanRef) (a : ℕ) : Type 0 where
@@ -111,19 +106,10 @@ object_counts size span a object =
 
 -- the next object begins where one ends
 steps_apart : (size i j : ℕ) → i < j → i * size + size ≤ j * size
-steps_apart size i j less =
-    let one : (i + 1) * size ≡ i * size + size = omega arith in
-    omega (arith, one, mul-le (i + 1) size j size (omega arith) (omega arith))
+steps_apart size i j less = grind (arith)
 
 object_once : (size : ℕ) (span : SpanRef) (a : ℕ) → 0 < size → found_in a size span ≤ 1
-object_once size span a pos =
-    let w : Addr → ℕ = λ x. at a x.0 in
-    let objects = objects_of size span in
-    let here : (i : ℕ) (d : Addr) → i < length objects → w (get_or objects i d) ≡ at a (first_byte span + i * size) = λ i d less. ap w (get_or-objects size span i d (omega (arith, length-objects size span))) in
-    sum_once w objects (λ i d less. at-few a (get_or objects i d).0) (λ i j d less within some_i some_j.
-    let first : first_byte span + i * size ≡ a = from_at a (first_byte span + i * size) (omega (arith, here i d (omega arith))) in
-    let second : first_byte span + j * size ≡ a = from_at a (first_byte span + j * size) (omega (arith, here j d within)) in
-    omega (arith, steps_apart size i j less))
+object_once size span a pos = grind (arith, get_or-objects, length-objects, sum_once, at-few, from_at, steps_apart)
 
 -- an object lies in its span's pages
 record IsInPages (size : ℕ) (span : SpanRef) (a : ℕ) : Type 0 where
@@ -131,11 +117,7 @@ record IsInPages (size : ℕ) (span : SpanRef) (a : ℕ) : Type 0 where
   high : a + size ≤ first_byte span + span.pages * 8192
 
 in_pages : (size : ℕ) (span : SpanRef) (a : ℕ) → IsObject size span a → IsInPages size span a
-in_pages size span a object =
-    let i = object.index in
-    let whole : span.pages * 8192 / size * size ≤ span.pages * 8192 = div-mul-le_self (span.pages * 8192) size in
-    let below : i * size + size ≤ span.pages * 8192 / size * size = steps_apart size i (span.pages * 8192 / size) object.within in
-    record { low = omega (arith, object.is); high = omega (arith, object.is, whole, below) }
+in_pages size span a object = grind (arith)
 
 -- where an object stands among the spans
 record IsPlaced (row : ClassRow) (spans : List SpanState) (a : ℕ) : Type 0 where
@@ -170,22 +152,11 @@ placed_counts row spans a p =
 -- objects of two spans don't meet
 ends_before : (row : ClassRow) (spans : List SpanState) (i j : ℕ) (s t : SpanState) (a b : ℕ) → IsSound (central_of row spans) → i < j
     → j < length spans → get_or spans i s ≡ s → get_or spans j s ≡ t → IsObject row.size s.span a → IsObject row.size t.span b → a + row.size ≤ b
-ends_before row spans i j s t a b sound less within first second object other =
-    let before : IsBefore (get_or spans i s) (get_or spans j s) = sound.apart i j s less within in
-    let from : (get_or spans i s).span.first.0 + (get_or spans i s).span.pages ≡ s.span.first.0 + s.span.pages = ap (λ u. u.span.first.0 + u.span.pages) first in
-    let to : (get_or spans j s).span.first.0 ≡ t.span.first.0 = ap (λ u. u.span.first.0) second in
-    omega (arith, before, from, to, (in_pages row.size s.span a object).high, (in_pages row.size t.span b other).low)
+ends_before row spans i j s t a b sound less within first second object other = grind (arith)
 
 -- nor do two of one
 same_span_apart : (size : ℕ) (s t : SpanRef) (a b : ℕ) → s ≡ t → IsObject size s a → IsObject size t b → a < b → a + size ≤ b
-same_span_apart size s t a b same object other less =
-    let first : first_byte s ≡ first_byte t = ap first_byte same in
-    let i = object.index in
-    let j = other.index in
-    elim (cases_lt i j) [
-      | inl below ↦ omega (arith, first, object.is, other.is, steps_apart size i j below)
-      | inr above ↦ (let back : j * size ≤ i * size = mul-le j size i size above (omega arith) in absurd (omega (arith, first, object.is, other.is, back)))
-    ]
+same_span_apart size s t a b same object other less = grind (arith, nat_tests, steps_apart, mul-le)
 
 cut_apart : (row : ClassRow) (spans : List SpanState) (a b : ℕ) → IsSound (central_of row spans) → IsPlaced row spans a → IsPlaced row spans b → a < b → a + row.size ≤ b
 cut_apart row spans a b sound p q less =
@@ -210,10 +181,7 @@ cut_once row spans a sound =
 -- a span of a list is counted among its spans
 span_counts : (test : SpanRef → Bool) (spans : List SpanState) (k : ℕ) (s : SpanState)
     → k < length spans → get_or spans k s ≡ s → test s.span ≡ true → 0 < count_by test (pages_of spans)
-span_counts test spans k s within here passes =
-    let w : SpanRef → ℕ = λ x. cond {A = ℕ} (test x) 1 0 in
-    let span : SpanState → SpanRef = λ x. x.span in
-    omega (arith, sum_by-map w span spans, get_or-le-sum_by (λ x. w (span x)) spans k s within, ap (λ x. w (span x)) here, ap (λ b. cond {A = ℕ} b 1 0) passes)
+span_counts test spans k s within here passes = grind (arith, sum_by-map, get_or-le-sum_by)
 
 -- a span begins with an object
 begun_placed : (row : ClassRow) (spans : List SpanState) (a : ℕ) → IsSound (central_of row spans) → 0 < count_by (λ (x : SpanRef). first_byte x == a) (pages_of spans) → IsPlaced row spans a
@@ -221,17 +189,12 @@ begun_placed row spans a sound begun =
     let w : SpanRef → ℕ = λ x. at a (first_byte x) in
     let span : SpanState → SpanRef = λ x. x.span in
     let m : StandsIn (λ x. w (span x)) spans = stands_in (λ x. w (span x)) spans (omega (arith, sum_by-map w span spans)) in
-    let s : SpanState = get_or spans m.place no_span in
-    let of_row : IsOfRow row s = sound.of_row m.place no_span m.within in
-    let some : 0 < objects_in s.span.pages row.size = some_objects s.span.pages row.size sound.some (omega (arith, sound.fits, of_row.pages)) in
-    placed_at row spans a m.place sound m.within (record { index = 0; within = some; is = omega (arith, from_at a (first_byte s.span) (m.some no_span)) })
+    grind (arith, sound.of_row m.place no_span m.within, some_objects, placed_at row spans a m.place sound m.within, from_at a, m.some no_span)
 
 -- an object that is free is among the free ones
 free_counts : (test : Addr → Bool) (addr : ℕ → Addr) (xs : List Bool) (i : ℕ) → i < length xs
     → get_or xs i true ≡ true → test (addr i) ≡ true → 0 < count_by test (free_from addr 0 xs)
-free_counts test addr xs i less free passes =
-    let one : weight test (get_or xs i true) (addr i) ≡ 1 = ap (λ b. weight test b (addr i)) free ∙ ap (λ b. cond {A = ℕ} b 1 0) passes in
-    omega (arith, one, free_from-set test addr 0 xs i false true (addr i) less (ap addr (omega arith)))
+free_counts test addr xs i less free passes = grind (arith, addr i, free_from-set test addr 0 xs i false true (addr i) less)
 
 -- and one that isn't is taken
 placed_taken : (row : ClassRow) (spans : List SpanState) (a : Addr) → IsPlaced row spans a.0 → found_at a.0 (free_in spans) ≡ 0 → IsTakenIn spans a
@@ -257,14 +220,7 @@ lies_in_span s a p =
     let span : SpanRef = p.state.span in
     let inside : IsInPages s.central.row.size span a = in_pages s.central.row.size span a p.object in
     let member : (test : SpanRef → Bool) → test span ≡ true → 0 < count_by test (spans_in s) = λ test passes. span_counts test s.central.spans p.place p.state p.within (p.here p.state) passes in
-    record {
-      span = span;
-      there = member (λ x. x.first.0 == span.first.0) (eq-eqb span.first.0 span.first.0 refl);
-      member = member;
-      pages = p.of_row.pages;
-      from = inside.low;
-      to = omega (arith, inside.high);
-    }
+    grind (arith, nat_tests, member (λ x. x.first.0 == span.first.0) (eq-eqb span.first.0 span.first.0 refl))
 
 pub spans_cut : SpansAreCut
 spans_cut s sound =

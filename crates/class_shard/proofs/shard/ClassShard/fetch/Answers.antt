@@ -1,11 +1,12 @@
-use Rattle.std.proofs.Common.{◌-◌, ◌==◌, List, ◌++◌, length, drop, sym, ◌∙◌, ap, subst, inr}
+use Rattle.std.proofs.Common.{◌-◌, ◌==◌, List, ◌++◌, length, drop, sym, ◌∙◌, ap, subst}
 use Rattle.std.specs.Prelude.{All}
 use Rattle.std.proofs.lemmas.Bool.{cond-true, cond-false, eq-eqb, ne_eqb}
 use Rattle.std.proofs.lemmas.List.Elements.{All-drop}
+use Rattle.std.proofs.Common.{arith}
 use Rattle.tc_units.specs.declared.units.Addr.{Addr}
 use Rattle.central_free.specs.Central.{taken, IsTakenIn}
 use Rattle.transfer_cache.specs.Transfer.{last_first}
-use Rattle.class_shard.specs.Shard.{Shard, IsEmpty, IsOut, fetched}
+use Rattle.class_shard.specs.Shard.{Shard, IsOut, fetched}
 use Rattle.class_shard.proofs.OutFacts.{All-reverse, IsOut-spans, IsOut-cached}
 use Rattle.class_shard.proofs.shard.ClassShard.fetch.Goals as goal
 use Rattle.class_shard.proofs.shard.ClassShard.fetch.Goals.{then-held-eq0, else-held-eq0}
@@ -29,15 +30,7 @@ returns-else-came-eq0-clause-kept c =
     ]
 
 pub returns-else-came-eq0-clause-miss : goal.returns-else-came-eq0-clause-miss
-returns-else-came-eq0-clause-miss c = (
-  λ clash. absurd cc,
-  λ empty. absurd (
-      let before : IsEmpty (record { class = c.self.inside.class; transfer = c.self.inside.transfer; central = c.self.inside.central }) = subst IsEmpty (sym c.self.view_is) empty in
-      elim c.if-held-eq0.branch [
-        | then-held-eq0 w ↦ c.if-came-eq0.false (w.came-is ∙ w.take-came.ensures.none.1 (inr before.no_free))
-        | else-held-eq0 w ↦ w.if-held-eq0.false (c.held.ensures.held ∙ ap length before.no_transfer)
-      ]),
-)
+returns-else-came-eq0-clause-miss c = grind (arith, c.if-came-eq0.false)
 
 pub returns-else-came-eq0-clause-given : goal.returns-else-came-eq0-clause-given
 returns-else-came-eq0-clause-given c =
