@@ -1,5 +1,5 @@
 -- What the last answers of workers say of their locals and of the causes that their seats met.
-use Rattle.std.proofs.Common.{◌≡◌, ◌≢◌, ℕ, zero, suc, ◌+◌, ◌-◌, ◌≤◌, inl, inr, true, false, List, [], ◌∷◌, All, map, length, get_or, Option, Some, None, refl, sym, ap, ◌∙◌, subst, arith}
+use Rattle.std.proofs.Common.{◌≡◌, ◌≢◌, ℕ, zero, suc, ◌+◌, ◌-◌, ◌≤◌, true, false, List, [], ◌∷◌, All, map, length, get_or, Option, Some, None, refl, sym, ap, ◌∙◌, subst, arith}
 use Rattle.std.specs.Option.{option_map}
 use Rattle.std.proofs.lemmas.List.{length-map}
 use Rattle.std.proofs.lemmas.List.Elements.{All-map, All-head, All-tail}
@@ -12,8 +12,7 @@ use Rattle.tc_model.specs.Run.{Rules}
 use Rattle.tc_model.specs.Rises.{Has}
 use Rattle.tc_model.proofs.Members.{same_some}
 use Rattle.replay_workers.specs.declared.worker.Worker.{Worker}
-use Rattle.replay_workers.specs.Runs.{Turns as Taken, is_over, RanBelow, Done, is_any_halted, halt_among, halt_of, lasts_of}
-use Rattle.replay_workers.specs.Runs.{IsReady as IsWorkerReady}
+use Rattle.replay_workers.specs.Runs.{Turns as Taken, is_over, RanBelow, Done, is_any_halted, halt_among, halt_of, lasts_of, IsReady as IsWorkerReady}
 use Rattle.part_lock.specs.declared.view.Key.{Key}
 use Rattle.part_lock.specs.declared.view.Work.{Work}
 use Rattle.part_lock.specs.declared.view.View.{View}
@@ -40,11 +39,7 @@ cause_told Ended = 0
 cause_told (Halted cause) = halt_number cause
 
 not_over : (answer : Turn) → is_over answer ≡ false → cause_told answer ≡ 0
-not_over Moved is = refl
-not_over NotYet is = refl
-not_over Held is = refl
-not_over Ended is = absurd (cc)
-not_over (Halted cause) is = absurd (cc)
+not_over answer is = grind (arith)
 
 module _ {X P L : Type 0} (mach : X → Rules P L) (table : TableId) (key : Key X) where
   hand_ready : (n : ℕ) (h k : PartHand X P L) (l m : Turn) → Taken (Turned mach key) n h l k m → Ready key h.thread.0 h.local h.seat.me → Ready key k.thread.0 k.local k.seat.me
@@ -60,13 +55,7 @@ module _ {X P L : Type 0} (mach : X → Rules P L) (table : TableId) (key : Key 
   turn_says h k NotYet ready turn = tt
   turn_says h k Held ready turn = tt
   turn_says h k Ended ready turn = let said = turn.3 ready.0 ready.1 in subst (λ (x : L). (mach key.machine).want x ≡ None) (sym said.1) said.0
-  turn_says h k (Halted cause) ready turn = elim (turn.3 ready.0 ready.1) [
-    | inl full ↦ let leaves = full.2.1 in wants _ h.local k.local (mach key.machine).want leaves.0.0 leaves.1
-    | inr rest ↦ elim rest [
-      | inl memory ↦ let leaves = memory.1.1 in wants _ h.local k.local (mach key.machine).want leaves.0.0 leaves.1
-      | inr seen ↦ wants _ h.local k.local (mach key.machine).want seen.1 seen.2.0
-    ]
-  ]
+  turn_says h k (Halted cause) ready turn = grind (arith, turn.3 ready.0 ready.1, wants)
 
   none_yet : (h : PartHand X P L) (w : Work X P L) → h.seat.me ≡ at_rest w → cause_in h.seat.me.0 ≡ 0 → w.cause ≡ 0
   none_yet h w knows bare = sym (ap (λ (me : Mine X P L). cause_in me.0) knows) ∙ bare
@@ -79,13 +68,7 @@ module _ {X P L : Type 0} (mach : X → Rules P L) (table : TableId) (key : Key 
   turn_cause h k NotYet ready turn bare = cause_left k _ 0 0 (turn.3 ready.0 ready.1).1.2 (none_yet h ready.0 ready.1.0 bare) refl
   turn_cause h k Held ready turn bare = cause_left k _ 0 0 (turn.3 ready.0 ready.1).1.2 (none_yet h ready.0 ready.1.0 bare) refl
   turn_cause h k Ended ready turn bare = cause_left k _ 0 0 (turn.3 ready.0 ready.1).2 (none_yet h ready.0 ready.1.0 bare) refl
-  turn_cause h k (Halted cause) ready turn bare = elim (turn.3 ready.0 ready.1) [
-    | inl full ↦ let left = full.2.1 in cause_left k _ 1 (halt_number cause) left.2 refl (sym (ap halt_number full.0))
-    | inr rest ↦ elim rest [
-      | inl memory ↦ let left = memory.1.1 in cause_left k _ 2 (halt_number cause) left.2 refl (sym (ap halt_number memory.0))
-      | inr seen ↦ cause_left k _ (halt_number cause) (halt_number cause) seen.2.1 refl refl
-    ]
-  ]
+  turn_cause h k (Halted cause) ready turn bare = grind (arith, turn.3 ready.0 ready.1, cause_left k)
 
   -- what the last answer of a hand's turns says, where the first one hadn't come
   hand_says : (n : ℕ) (h k : PartHand X P L) (l m : Turn) → l ≡ NotYet → Taken (Turned mach key) n h l k m → Ready key h.thread.0 h.local h.seat.me → Says (mach key.machine) k.local m

@@ -1,5 +1,5 @@
 -- What a whole run left, put together.
-use Rattle.std.proofs.Common.{◌≡◌, ℕ, zero, suc, ◌%◌, ◌<◌, ◌≤◌, false, List, map, [], ◌∷◌, ◌++◌, length, Some, refl, sym, ap, ◌∙◌, subst, arith}
+use Rattle.std.proofs.Common.{◌≡◌, ℕ, zero, suc, ◌%◌, ◌<◌, ◌≤◌, false, List, map, [], ◌∷◌, length, Some, refl, sym, ap, ◌∙◌, subst, arith}
 use Rattle.std.specs.List.{slice_get}
 use Rattle.std.specs.Option.{option_map}
 use Rattle.std.proofs.lemmas.List.{length-map, length-append}
@@ -8,8 +8,8 @@ use mathlib.Core.Logic.{dite}
 use native.Mathlib.Decide.{dec_lt}
 use Rattle.tc_model.specs.declared.board.Act.{Act}
 use Rattle.tc_model.specs.declared.board.Turn.{Turn}
-use Rattle.tc_model.specs.Run.{Rules, start, run}
-use Rattle.tc_model.specs.Chains.{threads_of, IsPolite}
+use Rattle.tc_model.specs.Run.{Rules, run}
+use Rattle.tc_model.specs.Chains.{threads_of}
 use Rattle.tc_model.specs.Rises.{Has, IsMerge}
 use Rattle.tc_model.proofs.Members.{same_some, at_longer}
 use Rattle.tc_model.proofs.Picks.{length_run}
@@ -41,9 +41,7 @@ length_numbers (suc n) = let more = length_numbers n in omega (arith, length-app
 
 number_at : (n i : ℕ) → i < n → slice_get (numbers n) i ≡ Some i
 number_at zero i less = absurd (omega arith)
-number_at (suc n) i less = dite (dec_lt i n)
-    (λ low. at_longer (numbers n) (n ∷ []) i i (number_at n i low))
-    (λ high. let e : length (numbers n) ≡ i = (let l = length_numbers n in omega arith) in let same : n ≡ i = omega arith in subst (λ (k : ℕ). slice_get (numbers n ++ k ∷ []) i ≡ Some i) (sym same) (at_seam (numbers n) [] i i e))
+number_at (suc n) i less = grind (arith, number_at n i, at_longer, length_numbers, at_seam)
 
 pub there_is : {A : Type 0} (xs : List A) (i : ℕ) → i < length xs → (a : A) × (slice_get xs i ≡ Some a)
 there_is [] i h = absurd (omega arith)
@@ -91,13 +89,7 @@ module _ {X P L : Type 0} where
 
   pub whole : (mach : X → Rules P L) (key : Key X) (n : ℕ) (ws : List (Work X P L)) (parts : List P) (locals : List L) (entries : List (List Entry)) (es : List Entry) → length (mach key.machine).locals ≡ n → map (λ (w : Work X P L). w.thread) ws ≡ numbers n
       → locals ≡ map (λ (w : Work X P L). w.local) ws → IsClosed mach key (all_joined (lead_of key (numbers n)) ws) parts entries → IsMerge entries es → IsRun (mach key.machine) parts locals es
-  whole mach key n ws parts locals entries es long threads locals_is closed merge =
-      let order : threads_in es ≡ threads_of closed.acts = ap threads_in (closed.merged es merge) ∙ threads_same closed.acts in
-      let r : Rules P L = mach key.machine in record {
-        polite = subst (IsPolite r (start r)) (sym order) closed.polite;
-        parts_are = closed.ends ∙ ap (λ (l : List ℕ). (run r l).parts) (sym order);
-        locals_are = locals_is ∙ (locals_of r n (threads_of closed.acts) ws long threads (λ w h. (closed.seats w h).1) ∙ ap (λ (l : List ℕ). (run r l).locals) (sym order));
-      }
+  whole mach key n ws parts locals entries es long threads locals_is closed merge = grind (arith, threads_same, locals_of)
 
 -- a runner with acts left wants a lane
 pub wants_lane : (m : Relay) (l : Runner) → 0 < l.left → relay_want m l ≡ Some (lane_no (l.left % m.lanes))

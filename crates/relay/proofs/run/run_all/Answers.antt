@@ -4,10 +4,11 @@ use Rattle.replay_workers.specs.Runs.{halt_of, halt_among, lasts_of}
 use Rattle.part_lock.specs.Lock.{entry_of}
 use Rattle.relay.proofs.Overs.{all_say, all_ended, all_used, causes_of, lasts_are}
 use Rattle.std.proofs.lemmas.List.{length-map}
+use Rattle.std.proofs.Common.{arith}
 use Rattle.tc_model.specs.Rises.{AreApart, IsMerge}
 use Rattle.part_lock.specs.Joins.{numbers, lead_of, all_joined, Turned, Fit}
 use Rattle.relay.proofs.Wholes.{few_of, all_there, length_numbers, threads_stay, map_both, whole}
-use Rattle.relay.specs.Ends.{IsRun, AreLasts}
+use Rattle.relay.specs.Ends.{IsRun}
 use Rattle.relay.proofs.run.run_all.Goals as goal
 
 pub run_workers-workers-requires-clause-ready : goal.run_workers-workers-requires-clause-ready
@@ -72,10 +73,7 @@ returns-clause-lasts g c =
     let rules = g.M.Machine.rules in let key = c.in-Ok.parts.key in
     let after = c.run_workers-workers.result.items in
     let say = all_say rules c.in-Ok.parts.table.shared.table_id key c.in-Ok-seat_all.workers.items after (sym c.run_workers-workers.ensures.long) c.in-Ok-seat_all.ensures.ready c.in-Ok-seat_all.ensures.fresh c.run_workers-workers.ensures.each in
-    let lasts = c.in-Ok-lasts_of.ensures ∙ ap lasts_of c.as_slice-2.ensures.value in
-    let are = subst (AreLasts (rules key.machine) (map (λ w. w.hand.local) after)) (sym lasts) (lasts_are (rules key.machine) after c.run_workers-workers.ensures.done say.0) in
-    let local = subst (λ l. AreLasts (rules key.machine) l c.in-Ok-lasts_of.lasts.items) (sym c.in-Ok-join_all.ensures.locals) are in
-    subst (λ x. AreLasts (rules x) c.in-Ok-join_all.locals.items c.in-Ok-lasts_of.lasts.items) c.in-Ok.ensures.key.0 local
+    grind (arith, lasts_are (rules key.machine) after c.run_workers-workers.ensures.done say.0)
 
 pub returns-clause-halt : goal.returns-clause-halt
 returns-clause-halt g c = c.halt_of-halt.ensures ∙ (ap halt_of c.as_slice.ensures.value ∙ sym (ap halt_among (c.in-Ok-lasts_of.ensures ∙ ap lasts_of c.as_slice-2.ensures.value)))
