@@ -6,7 +6,7 @@ use Rattle.std.proofs.lemmas.Bool.Decides.{nat_tests}
 use Rattle.std.specs.Option.{option_to_list}
 use Rattle.std.proofs.lemmas.List.Elements.{All-cons, All-head, All-tail, All-contains}
 use Rattle.std.proofs.lemmas.List.{get_or_default, get_or_past, length-set, length-replicate, get_or-replicate, get_or-set_same, get_or-set_other}
-use Rattle.std.proofs.lemmas.Bool.{cases_Bool, cases_lt, cases_eq, and_from, and_parts, leb-true, ltb-true, le-leb, lt-ltb, eq-eqb, ne_eqb, eqb-true, true≢false}
+use Rattle.std.proofs.lemmas.Bool.{cases_lt, cases_eq, and_from, and_parts, ltb-true, le-leb, lt-ltb, eq-eqb, ne_eqb, eqb-true, true≢false}
 use Rattle.tc_units.specs.declared.spans.SpanRef.{SpanRef}
 use Rattle.place_set.specs.Places.{IsLast, IsLastAt}
 use Rattle.page_map.specs.declared.leaf.Leaf.{Leaf}
@@ -41,11 +41,7 @@ spans_from-is begin page (suc n) (x ∷ xs) order some low high told =
           (λ k d within. let h : (get_or xs k d).first.0 < page + suc n = All-tail (λ s. s.first.0 < page + suc n) x xs high k d within in omega arith)
           (λ p from. told p (omega arith) ∙ ap (λ b. option_to_list (cond b (Some x) (find (begins p) xs))) (ne_eqb p x.first.0 (omega arith))) in
           ap (λ b. b ++ spans_from begin (page + 1) n) one ∙ ap (λ ys. x ∷ ys) rest)
-      | inr other ↦
-          (let all_later : All (λ s. page < s.first.0) (x ∷ xs) = first_later page x xs (omega arith) later in
-          ap (λ b. b ++ spans_from begin (page + 1) n) (told page (omega arith) ∙ ap option_to_list (sym (none_begins page (x ∷ xs) all_later)))
-          ∙ spans_from-is begin (page + 1) n (x ∷ xs) order some (λ k d within. let l : page < (get_or (x ∷ xs) k d).first.0 = all_later k d within in omega arith)
-          (λ k d within. let h : (get_or (x ∷ xs) k d).first.0 < page + suc n = high k d within in omega arith) (λ p from. told p (omega arith)))
+      | inr other ↦ grind (arith, spans_from-is begin (page + 1) n (x ∷ xs) order some, first_later page x xs, told page, none_begins page (x ∷ xs), high)
     ]
 
 -- the map of leaves and a set that tell of each page what spans in order tell of it
@@ -55,11 +51,7 @@ pub record Means (leaves : List (Option Leaf)) (marks : List Bool) (map : SpanMa
 
 pub means : (leaves : List (Option Leaf)) (marks : List Bool) (huge : ℕ) (xs : List SpanRef) → length leaves ≡ huge + 1 → IsWellFormed (record { huge = huge; spans = xs }) → ((page : ℕ) → begin_at leaves page ≡ find (begins page) xs) → ((page : ℕ) → get_or marks page false ≡ is_some (begin_at leaves page)) → length marks ≡ 256 * length leaves → Means leaves marks (record { huge = huge; spans = xs })
 means leaves marks huge xs size well told places len =
-    let spans : spans_from (begin_at leaves) 0 (256 * length leaves) ≡ xs =
-    spans_from-is (begin_at leaves) 0 (256 * length leaves) xs well.apart (λ k d within. (well.inside k d within).some) (λ k d within. omega arith)
-    (λ k d within. let i : IsInside huge (get_or xs k d) = well.inside k d within in omega (arith, i.some, i.to, size))
-    (λ p from. ap option_to_list (told p)) in
-    grind (arith, nat_tests)
+    grind (arith, spans_from-is (begin_at leaves) 0 (256 * length leaves) xs well.apart (λ k d within. (well.inside k d within).some), well.inside, told)
 
 -- where none begins
 pub unmarked : (n k : ℕ) → get_or (replicate n false) k false ≡ false
@@ -111,9 +103,7 @@ module _ (old new : List (Option Leaf)) (marks : List Bool) (span : SpanRef) (ma
 
 -- two spans of a map that hold one page are one
 same_span : (map : SpanMap) (s t : SpanRef) (page : ℕ) → IsWellFormed map → Contains map.spans s → Contains map.spans t → holds page s ≡ true → holds page t ≡ true → s ≡ t
-same_span map s t page well s_there t_there s_holds t_holds =
-    let at : (get_or map.spans s_there.0 s ≡ s) × (get_or map.spans t_there.0 s ≡ t) = (s_there.2, get_or_default map.spans t_there.0 s t t_there.1 ∙ t_there.2) in
-    grind (arith, nat_tests, cases_eq, cases_lt)
+same_span map s t page well s_there t_there s_holds t_holds = grind (arith, nat_tests, get_or_default map.spans t_there.0 s t t_there.1)
 
 -- a span that begins at a page, and one that holds a page beginning at or before it
 begins_at : (page : ℕ) (xs : List SpanRef) (s : SpanRef) → find (begins page) xs ≡ Some s → Contains xs s × (page ≡ s.first.0)
@@ -133,13 +123,7 @@ module _ (leaves : List (Option Leaf)) (marks : List Bool) (map : SpanMap) (page
 
   -- a span that holds the page begins at a place of the set, at or before it
   holder_begins : (t : SpanRef) → Contains map.spans t → holds page t ≡ true → (t.first.0 ≤ page) × (get_or marks t.first.0 false ≡ true)
-  holder_begins t there held = (
-    leb-true t.first.0 page (and_parts (nat_le t.first.0 page) (nat_lt page (t.first.0 + t.pages)) held).0,
-    elim (cases_Bool (get_or marks t.first.0 false)) [
-      | inl is ↦ is
-      | inr isnt ↦ absurd (true≢false (sym (eq-eqb t.first.0 t.first.0 refl) ∙ All-contains (λ s. begins t.first.0 s ≡ false) map.spans t (none_begins_at t.first.0 isnt) there))
-    ],
-  )
+  holder_begins t there held = grind (arith, nat_tests, All-contains (λ s. begins t.first.0 s ≡ false) map.spans t, none_begins_at t.first.0)
 
   -- past the arena, or where no span has begun
   pub outside : 256 * length leaves ≤ page → None ≡ find (holds page) map.spans

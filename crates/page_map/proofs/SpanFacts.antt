@@ -54,9 +54,7 @@ begins_behind page s lt = and_left (nat_le s.first.0 page) (nat_lt page (s.first
 
 pub with_span-All : (P : SpanRef → Type 0) (span : SpanRef) (xs : List SpanRef) → P span → All P xs → All P (with_span span xs)
 with_span-All P span [] one all = All-cons P span [] one all
-with_span-All P span (x ∷ xs) one all =
-    cond_both (nat_lt span.first.0 x.first.0) (span ∷ x ∷ xs) (x ∷ with_span span xs) (All P) (λ _. All-cons P span (x ∷ xs) one all)
-    (λ _. All-cons P x (with_span span xs) (All-head P x xs all) (with_span-All P span xs one (All-tail P x xs all)))
+with_span-All P span (x ∷ xs) one all = grind (arith, nat_tests, with_span-All P span xs one (All-tail P x xs all), cond_both, All-cons, All-head, All-tail)
 
 -- a span that is set is one of the spans
 pub with_span-there : (span : SpanRef) (xs : List SpanRef) → Contains (with_span span xs) span
@@ -81,22 +79,15 @@ with_span-apart span (x ∷ xs) some apart order =
 -- a map with one more span is well formed
 pub with_span-well_formed : (huge : ℕ) (span : SpanRef) (xs : List SpanRef) → IsInside huge span → All (AreApart span) xs → IsWellFormed (record { huge = huge; spans = xs }) → IsWellFormed (record { huge = huge; spans = with_span span xs })
 with_span-well_formed huge span xs inside apart well =
-    record {
-      some = well.some;
-      few = well.few;
-      inside = with_span-All (IsInside huge) span xs inside well.inside;
-      apart = with_span-apart span xs inside.some apart well.apart;
-    }
+    grind (arith, with_span-All (IsInside huge) span xs inside well.inside, with_span-apart span xs inside.some apart well.apart)
 
 -- and so is one with one less
 pub without_span-well_formed : (huge : ℕ) (span : SpanRef) (xs : List SpanRef) → IsWellFormed (record { huge = huge; spans = xs }) → IsWellFormed (record { huge = huge; spans = without_span span xs })
-without_span-well_formed huge span xs well =
-    record {
-      some = well.some;
-      few = well.few;
-      inside = All-filter (λ s. not (s.first.0 == span.first.0)) (IsInside huge) xs well.inside;
-      apart = AllPairs-filter IsBefore (λ s. not (s.first.0 == span.first.0)) xs well.apart;
-    }
+without_span-well_formed huge span xs well = grind (
+  arith,
+  All-filter (λ s. not (s.first.0 == span.first.0)) (IsInside huge) xs well.inside,
+  AllPairs-filter IsBefore (λ s. not (s.first.0 == span.first.0)) xs well.apart,
+)
 
 -- no two spans begin at one page
 first_pages_differ : (huge : ℕ) (xs : List SpanRef) (d : SpanRef) (i j : ℕ) → IsWellFormed (record { huge = huge; spans = xs }) → i < length xs → j < length xs → i ≢ j → (get_or xs i d).first.0 ≡ (get_or xs j d).first.0 → ⊥
@@ -110,16 +101,7 @@ apart_holds page s t apart held = grind (arith, nat_tests, leb-true, ends_before
 pub find-with : (p : SpanRef → Bool) (span : SpanRef) (xs : List SpanRef) → All (λ x. p x ≡ true → p span ≡ false) xs → find p (with_span span xs) ≡ cond (p span) (Some span) (find p xs)
 find-with p span [] apart = refl
 find-with p span (x ∷ xs) apart =
-    let rest : find p (with_span span xs) ≡ cond (p span) (Some span) (find p xs) = find-with p span xs (All-tail (λ y. p y ≡ true → p span ≡ false) x xs apart) in
-    cond_both (nat_lt span.first.0 x.first.0) (span ∷ x ∷ xs) (x ∷ with_span span xs) (λ ys. find p ys ≡ cond (p span) (Some span) (find p (x ∷ xs)))
-    (λ _. refl)
-    (λ _.
-    elim (cases_Bool (p x)) [
-      | inl held ↦
-          (let not_span : p span ≡ false = All-head (λ y. p y ≡ true → p span ≡ false) x xs apart held in
-          grind (arith, nat_tests))
-      | inr free ↦ grind (arith, nat_tests)
-    ])
+    grind (arith, nat_tests, find-with p span xs (All-tail (λ y. p y ≡ true → p span ≡ false) x xs apart), All-tail, cond_both, All-head)
 
 -- so what a page is held by, and what begins there
 pub find-with_span : (page : ℕ) (span : SpanRef) (xs : List SpanRef) → All (AreApart span) xs → find (holds page) (with_span span xs) ≡ cond (holds page span) (Some span) (find (holds page) xs)
@@ -139,10 +121,7 @@ find_left_step p x left later cut held gone same other rest at = grind (arith, n
 
 find_left : (p : SpanRef → Bool) (span : SpanRef) (xs : List SpanRef) → All (Relates p span) xs → find p (without_span span xs) ≡ cond (p span) None (find p xs)
 find_left p span [] all = grind (arith, nat_tests)
-find_left p span (x ∷ xs) all =
-    let rest : find p (without_span span xs) ≡ cond (p span) None (find p xs) = find_left p span xs (All-tail (Relates p span) x xs all) in
-    let here : Relates p span x = All-head (Relates p span) x xs all in
-    find_left_step p x (without_span span xs) (find p xs) (x.first.0 == span.first.0) (p x) (p span) here.same here.other rest refl
+find_left p span (x ∷ xs) all = grind (arith, find_left p span xs (All-tail (Relates p span) x xs all), All-tail, All-head, find_left_step)
 
 pub begins-without_span : (page : ℕ) (span : SpanRef) (xs : List SpanRef) → find (begins page) (without_span span xs) ≡ cond (begins page span) None (find (begins page) xs)
 begins-without_span page span xs = grind (arith, nat_tests, ne_eqb, find_left, eqb-false, eqb-true)

@@ -1,5 +1,5 @@
-use Rattle.std.proofs.Common.{◌∙◌, sym, ap, set, find, false, refl, subst}
-use Rattle.page_map.specs.Spans.{holds, without_span, IsWellFormed}
+use Rattle.std.proofs.Common.{sym, set, false, refl, subst, arith}
+use Rattle.page_map.specs.Spans.{without_span}
 use Rattle.page_map.specs.Begins.{IsKept}
 use Rattle.page_map.proofs.SpanFacts.{find-without_span}
 use Rattle.page_map.proofs.Meaning.{Means, leaf_there, means_without}
@@ -22,7 +22,4 @@ pub returns-clause-well_formed : goal.returns-clause-well_formed
 returns-clause-well_formed c = (meaning c).kept.well_formed
 
 pub returns-clause-reads : goal.returns-clause-reads
-returns-clause-reads c =
-    λ page.
-    ap (λ m. find (holds page) m.spans) (meaning c).is
-    ∙ find-without_span c.args.self.now.huge page c.args.span c.args.self.now.spans (subst IsWellFormed c.self.view_is c.self.invariant.well_formed) c.requires
+returns-clause-reads c = grind (arith, meaning c, find-without_span c.args.self.now.huge)

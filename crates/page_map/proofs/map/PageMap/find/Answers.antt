@@ -1,6 +1,5 @@
 use Rattle.std.proofs.lemmas.Bool.Decides.{nat_tests}
-use Rattle.std.proofs.Common.{arith}
-use Rattle.std.proofs.Common.{Some, None, cond, sym, ap, ◌∙◌}
+use Rattle.std.proofs.Common.{arith, Some, None, cond, sym, ap, ◌∙◌}
 use Rattle.page_map.proofs.Meaning.{outside, none_begun, begun, past_by}
 use Rattle.page_map.proofs.map.PageMap.find.Goals as goal
 

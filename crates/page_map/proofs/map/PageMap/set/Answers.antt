@@ -1,6 +1,5 @@
 use Rattle.std.proofs.lemmas.Bool.Decides.{nat_tests}
-use Rattle.std.proofs.Common.{arith}
-use Rattle.std.proofs.Common.{Some, ◌∙◌, ◌==◌, sym, ap, cond, set, true, subst}
+use Rattle.std.proofs.Common.{arith, Some, ◌∙◌, ◌==◌, sym, ap, cond, set, true, subst}
 use Rattle.page_map.specs.Spans.{with_span}
 use Rattle.page_map.specs.Begins.{IsKept}
 use Rattle.page_map.proofs.SpanFacts.{find-with_span}
