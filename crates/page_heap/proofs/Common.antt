@@ -14,7 +14,7 @@ pub use Rattle.heap_rules.proofs.Released.{free_sound, idle_sound, release_keeps
 pub use Rattle.heap_rules.proofs.Remade.{here, remade}
 pub use Rattle.heap_rules.specs.Choice.{filler_row, filler_rows, hugepages_for, region_row_of, region_rows, run_choice, taken_row, unready_row}
 pub use Rattle.heap_rules.specs.FillerRows.{FillerRow, filler_place, place_in_row}
-pub use Rattle.heap_rules.specs.Free.{emptied, given_back, left_by, used_regions, without_unused_regions}
+pub use Rattle.heap_rules.specs.Free.{given_back, left_by, used_regions, without_unused_regions}
 pub use Rattle.heap_rules.specs.Heap.{Heap, Hugepage, allocation_count, backed_count, backed_pages, backs, each, hugepage, is_filler, is_free}
 pub use Rattle.heap_rules.specs.Heap.{is_free_backed, is_kind_filler, is_kind_free, is_kind_region, is_region, is_used, longest_range, numbers, opened}
 pub use Rattle.heap_rules.specs.Heap.{pages_of, reaches, region_row, row_of, run_at, spans, tier, untouched, used_count, used_pages, used_row, with_run}
@@ -44,8 +44,8 @@ pub use Rattle.range_bits.proofs.Placing.{get_or-with_places, length-with_places
 pub use Rattle.range_bits.proofs.RangeLemmas.{filter-agree, first_least-all, range-within}
 pub use Rattle.range_bits.specs.Ranges.{best, first_least, first_of_two, free_from, longest, with_places}
 pub use Rattle.std.proofs.lemmas.Bool.Decides.{nat_tests}
-pub use Rattle.std.proofs.lemmas.Bool.{and_left, and_parts, and_right, cases_Bool, cases_eq, cases_lt, eq-eqb, false_from_ne_true}
-pub use Rattle.std.proofs.lemmas.Bool.{false≢true, le-leb, le-ltb, leb-true, lt-leb, lt-ltb, ne_eqb, not-false, not-true, not_from_false}
+pub use Rattle.std.proofs.lemmas.Bool.{and_left, and_parts, and_right, cases_Bool, cases_eq, cases_lt, false_from_ne_true}
+pub use Rattle.std.proofs.lemmas.Bool.{false≢true, le-leb, le-ltb, leb-true, lt-leb, lt-ltb, ne_eqb, not-true, not_from_false}
 pub use Rattle.std.proofs.lemmas.List.{get_or-drop, get_or-map, get_or-replicate, get_or-set_other, get_or-set_same, get_or_default, get_or_past}
 pub use Rattle.std.proofs.lemmas.List.{length-drop, length-map, length-replicate, length-set, same_lists, take_all}
 pub use Rattle.std.proofs.lemmas.List.Elements.{All-contains, All-filter, All-head, All-tail, Contains-get_or}

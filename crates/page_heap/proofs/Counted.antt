@@ -1,7 +1,6 @@
 -- The used pages of a range, counted run by run.
-use Rattle.std.proofs.Common.{◌≡◌, ℕ, zero, suc, ◌+◌, ◌-◌, ◌*◌, ◌≤◌, Bool, cond, min, max, List, [], ◌∷◌, get_or, count_by, sum_by, refl, sym, ◌∙◌}
-use Rattle.std.proofs.Common.{inl, inr, arith}
-use Rattle.page_heap.proofs.Common.{range_with_len, cases_Bool, sum_by-cons, Run, count-cons, one-true, one-false, Heap, is_used}
+use Rattle.std.proofs.Common.{◌≡◌, ℕ, zero, suc, ◌+◌, ◌-◌, ◌*◌, ◌≤◌, Bool, cond, min, max, List, [], ◌∷◌, get_or, count_by, sum_by, refl, sym, ◌∙◌, arith}
+use Rattle.page_heap.proofs.Common.{range_with_len, sum_by-cons, Run, count-cons, one-true, one-false, Heap, is_used}
 use Rattle.page_heap.proofs.Common.{used_count, used_pages, IsSound, used_counts, unused_counts, holds_parts, holds_from, same_sums, sum-adds, nat_tests}
 use Rattle.heap_rules.specs.Heap.{holds, used_from}
 use Rattle.page_heap.proofs.Steps.{count-map}
@@ -25,16 +24,11 @@ pages_in first many run = min (run.first.0 + run.pages) (first + many) - max run
 pub held_count : (run : Run) (first many : ℕ) → count_by (λ p. holds p run) (range_with_len first many) ≡ pages_in first many run
 held_count run first zero = omega arith
 held_count run first (suc n) =
-    let rest = held_count run (first + 1) n in
-    let a = count-cons (λ p. holds p run) first (range_with_len (first + 1) n) in
-    grind (arith, nat_tests, holds_parts, holds_from)
+    grind (arith, held_count run (first + 1) n, count-cons (λ p. holds p run) first (range_with_len (first + 1) n), holds_parts, holds_from)
 
 -- a page of disjoint runs is used where one holds it
 one_holds : (runs : List Run) (p : ℕ) → count_by (holds p) runs ≤ 1 → cond (is_used runs p) 1 0 ≡ count_by (holds p) runs
-one_holds runs p most = elim (cases_Bool (is_used runs p)) [
-  | inl t ↦ (let some = used_counts runs p t in let one = one-true (is_used runs p) t in omega arith)
-  | inr f ↦ (let none = unused_counts runs p f in let zero' = one-false (is_used runs p) f in omega arith)
-]
+one_holds runs p most = grind (arith, nat_tests, used_counts runs p, one-true (is_used runs p), unused_counts runs p, one-false (is_used runs p))
 
 -- a range and the one behind it
 adjacent : (r : Run) (h n : ℕ) → pages_in (256 * h) 256 r + pages_in (256 * (h + 1)) (256 * n) r ≡ pages_in (256 * h) (256 * suc n) r

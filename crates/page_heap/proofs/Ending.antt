@@ -1,15 +1,14 @@
 -- A run leaves a region, which ends where it has no used page left.
 use Rattle.std.proofs.Common.{◌≡◌, ◌≢◌, ℕ, ◌+◌, ◌-◌, ◌*◌, ◌/◌, ◌<◌, ◌≤◌, ◌==◌, Bool, true, false, not, ◌&&◌, cond, List, [], ◌∷◌, length, get_or}
 use Rattle.std.proofs.Common.{map, filter, drop, Contains, Some, refl, sym, ap, subst, ◌∙◌, inl, inr, arith}
-use Rattle.page_heap.proofs.Common.{list_any, list_all, cases_Bool, cases_eq, not-true, not-false, false≢true, false_from_ne_true, length-map, length-drop}
-use Rattle.page_heap.proofs.Common.{get_or-drop, length-map-range_with_len, get_or-map-range_with_len, All-contains, Contains-get_or, Run, RowKind}
-use Rattle.page_heap.proofs.Common.{any_is_count, count_some, filter-agree, HeapConfig, Heap, Hugepage, hugepage, is_used, reaches, is_free, is_filler}
-use Rattle.page_heap.proofs.Common.{is_region, spans, RegionRow, region_row_of, left_by, used_regions, without_unused_regions, given_back, IsHugepageOf}
-use Rattle.page_heap.proofs.Common.{IsRegion, AreRunsSound, IsSound, range_used, given_back_sound, given_is_left, ended, holds_from, reaches_parts}
-use Rattle.page_heap.proofs.Common.{spans_parts, spans_from, is_Region, unreached_unheld, left_runs, left_kinds, same_member, unused_rest, used_rest}
-use Rattle.page_heap.proofs.Common.{counts_used, prefix_long, at, map-at, page_of, here, Means, IsEnding, AllUsed, has_used, Table, IsSpan, reached_by, Cache}
-use Rattle.page_heap.proofs.Common.{Regions, region_with, with_changed, without_region, start_in, is_unused, AreUsedIn, Inside, AreFreed, measured, measures}
-use Rattle.page_heap.proofs.Common.{cache_of, regions_of, IsInRegion, IsTold, nat_tests}
+use Rattle.page_heap.proofs.Common.{list_any, list_all, cases_Bool, false_from_ne_true, length-map, length-drop, get_or-drop, length-map-range_with_len}
+use Rattle.page_heap.proofs.Common.{get_or-map-range_with_len, All-contains, Contains-get_or, Run, RowKind, any_is_count, count_some, filter-agree, HeapConfig}
+use Rattle.page_heap.proofs.Common.{Heap, Hugepage, hugepage, is_used, reaches, is_free, is_filler, is_region, spans, RegionRow, region_row_of, left_by}
+use Rattle.page_heap.proofs.Common.{used_regions, without_unused_regions, given_back, IsHugepageOf, IsRegion, AreRunsSound, IsSound, range_used}
+use Rattle.page_heap.proofs.Common.{given_back_sound, given_is_left, ended, holds_from, reaches_parts, spans_parts, spans_from, is_Region, unreached_unheld}
+use Rattle.page_heap.proofs.Common.{left_runs, left_kinds, same_member, unused_rest, used_rest, counts_used, prefix_long, at, map-at, page_of, here, Means}
+use Rattle.page_heap.proofs.Common.{IsEnding, AllUsed, has_used, Table, IsSpan, reached_by, Cache, Regions, region_with, with_changed, without_region, start_in}
+use Rattle.page_heap.proofs.Common.{is_unused, AreUsedIn, Inside, AreFreed, measured, measures, cache_of, regions_of, IsInRegion, IsTold, nat_tests}
 use Rattle.tc_units.specs.Sorted.{without_key}
 use Rattle.tc_units.specs.declared.rows.RowKind.TheVariants as kind
 use Rattle.range_bits.specs.Ranges.{used_from}
@@ -184,9 +183,7 @@ module _ (old : Inside) (heap : Heap) (is : IsHeap old heap) (run : Run) (live :
   was = region_row_of heap k
 
   found : region_with old.regions (run.first.0 / 256) ≡ Some was
-  found = ap (λ (all : Regions). region_with all (run.first.0 / 256)) is.shows.regions
-      ∙ region_found heap k (run.first.0 / 256) (sound.runs.apart (run.first.0 / 256)) route.known
-      (spans_from heap.config.region (run.first.0 / 256) k (omega (arith, route.from)) (omega (arith, route.to, some)))
+  found = grind (arith, region_found heap k (run.first.0 / 256) (sound.runs.apart (run.first.0 / 256)) route.known)
 
   live_used : (p : ℕ) → holds p run ≡ true → is_used heap.runs p ≡ true
   live_used p t = let there : get_or heap.runs live.0 run ≡ run = live.2 in counts_used heap.runs p (count_some (holds p) heap.runs live.0 run live.1 (ap (holds p) there ∙ t))
@@ -202,11 +199,7 @@ module _ (old : Inside) (heap : Heap) (is : IsHeap old heap) (run : Run) (live :
         };
         some = some;
         row = was;
-        used = record {
-          row = found;
-          used = used_long heap.runs (256 * k) (256 * heap.config.region) s run.pages (omega (arith, route.from, route.to))
-              (λ p a b. live_used p (holds_from p run (omega (arith, route.from)) (omega (arith, route.from))));
-        };
+        used = grind (arith, found, used_long heap.runs (256 * k) (256 * heap.config.region) s run.pages, live_used, holds_from);
         counted = run_counted old heap is run live;
       }
 
@@ -245,10 +238,7 @@ module _ (old : Inside) (heap : Heap) (is : IsHeap old heap) (run : Run) (live :
       ((row : RegionRow) → region_with old.regions (run.first.0 / 256) ≡ Some row → is_unused (left (start_in row run.first.0) run.pages row) ≡ false) →
       AllUsed before × IsMade (given_back heap run) old.config old.filler old.cache all (old.used - run.pages)
   stays all given answer =
-      let used : AllUsed before = λ r known. elim (cases_eq r k) [
-        | inl same ↦ ap (has_used before) same ∙ not-false _ (used_then false (answer was found))
-        | inr other ↦ others r known other
-      ] in
+      let used : AllUsed before = grind (arith, nat_tests, used_then false (answer was found), answer was found, found, others) in
       let same : given_back heap run ≡ before = given_is_left heap run sound live used in (
         used,
         left_made old heap is run live _ _ _
@@ -260,14 +250,7 @@ module _ (old : Inside) (heap : Heap) (is : IsHeap old heap) (run : Run) (live :
   -- Where it has none, it ends.
   module _ (none : is_unused (left s run.pages was) ≡ true) where
     ending : IsEnding before k
-    ending = record {
-      known = route.known;
-      unused = not-true _ (used_then true none);
-      alone = λ r known out. elim (cases_eq r k) [
-        | inl same ↦ same
-        | inr other ↦ absurd (false≢true (sym out ∙ others r known other))
-      ];
-    }
+    ending = grind (arith, nat_tests, used_then, others)
 
     runs : AreRunsSound before
     runs = left_runs heap run sound live

@@ -99,9 +99,7 @@ module _ (heap : Heap) (f : ℕ → Hugepage → Hugepage) (sound : AreRunsSound
       ((h : ℕ) → IsHugepageOf heap.config.huge h → numbered flags h true ≡ p (f h (hugepage heap h))) → flags ≡ map p then
   flags_are p flags size same =
       let len = length-map then p in let size' = length-each f heap.hugepages in
-      same_numbered true flags (map p then) (size ∙ sym (len ∙ size'))
-      (λ h some l.
-      same h (number heap sound h some (omega arith)) ∙ ap p (sym (at-each f heap.hugepages h some (omega arith))) ∙ sym (map-at p then h true some (omega arith)))
+      grind (arith, same_numbered true flags (map p then) (size ∙ sym (len ∙ size')), same, number heap sound, at-each f heap.hugepages, map-at p then)
 
   flag : (p : Hugepage → Bool) (h : ℕ) → IsHugepageOf heap.config.huge h → numbered (map p heap.hugepages) h true ≡ p (hugepage heap h)
   flag p h is = let len = sound.arena in map-at p heap.hugepages h true is.from (omega (arith, is.to))

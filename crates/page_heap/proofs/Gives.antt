@@ -37,9 +37,7 @@ cleared_behind [] j k l t a = absurd (omega arith)
 cleared_behind (x ∷ xs) zero zero l t a =
     let one = one-true x t in let b = count-cons (λ b. b) x xs in let c = count-cons (λ b. b) false xs in omega arith
 cleared_behind (x ∷ xs) zero (suc k) l t a = absurd (omega arith)
-cleared_behind (x ∷ xs) (suc j) zero l t a =
-    let rest = cleared_behind xs j zero (omega arith) t (omega arith) in
-    let b = count-cons (λ b. b) x xs in let c = count-cons (λ b. b) x (set xs j false) in omega arith
+cleared_behind (x ∷ xs) (suc j) zero l t a = grind (arith, cleared_behind xs j zero, count-cons (λ b. b) x xs, count-cons (λ b. b) x (set xs j false))
 cleared_behind (x ∷ xs) (suc j) (suc k) l t a = cleared_behind xs j k (omega arith) t (omega arith)
 
 shifted : (a b n : ℕ) → a ≡ b + 1 → nat_lt (256 * a) n ≡ nat_lt (256 * b) (n - 256)
@@ -109,16 +107,10 @@ still_backed heap k h sound from to some =
     let arena = sound.runs.arena in
     let flags = map is_free_backed heap.hugepages in
     let len = length-map heap.hugepages is_free_backed in
-    let then : set flags (k - 1) false ≡ map is_free_backed (unbacked_span heap k 1).hugepages = grind (arith, nat_tests, flags_set, unbacked_there) in
-    sym (flag_at (unbacked_span heap k 1) h) ∙ ap (λ row. at_number false row h) (sym then)
-    ∙ numbered-set flags k false h false from (omega arith) some ∙ ap (cond (spans 1 h k) false) (flag_at heap h)
+    grind (arith, flags_set, unbacked_there, flag_at (unbacked_span heap k 1) h, numbered-set flags k false h false from, flag_at heap h)
 
 two_spans : (heap : Heap) (first m : ℕ) → unbacked_span (unbacked_span heap (first + suc m) 1) first (suc m) ≡ unbacked_span heap first (suc (suc m))
-two_spans heap first m =
-    let last : ℕ → Hugepage → Hugepage = λ k x. cond (spans 1 k (first + suc m)) (unbacked x) x in
-    let rest : ℕ → Hugepage → Hugepage = λ k x. cond (spans (suc m) k first) (unbacked x) x in
-    ap (λ xs. record heap { hugepages = xs })
-    (each_each rest last heap.hugepages ∙ each_where (λ k x. rest k (last k x)) (λ k x. cond (spans (suc (suc m)) k first) (unbacked x) x) heap.hugepages (λ k from to. grind (arith, nat_tests)))
+two_spans heap first m = grind (arith, each_each, each_where)
 
 pub free_none : (heap : Heap) (n : ℕ) → ((h : ℕ) → is_free_backed (hugepage heap h) ≡ false) → free_given heap n ≡ record { heap = heap; pages = 0 }
 free_none heap n none = whole_none (map is_free_backed heap.hugepages) heap n (λ k from to. and_left _ _ (flag_at heap k ∙ none k))
@@ -196,11 +188,7 @@ one_idle heap huge sound is =
 
 -- Adjacent free ones give together, as one after another from the last one down.
 together : (give : ℕ → Released) (a b c n : ℕ) → a + b ≡ c → behind a (behind b (give (n - a - b))) ≡ behind c (give (n - c))
-together give a b c n e =
-    let left : n - a - b ≡ n - c = omega arith in
-    let r = give (n - c) in
-    let sum : a + (b + r.pages) ≡ c + r.pages = omega arith in
-    ap (λ k. behind a (behind b (give k))) left ∙ ap (λ k. record { heap = r.heap; pages = k }) sum
+together give a b c n e = grind (arith)
 
 pub free_stretch : (heap : Heap) (n first many : ℕ) → IsSound heap → AreLast heap (λ h. is_free_backed (hugepage heap h)) (record { first = record { 0 = first }; many = many }) →
     256 * (many - 1) < n → free_given heap n ≡ behind (256 * many) (free_given (unbacked_span heap first many) (n - 256 * many))
@@ -215,11 +203,7 @@ free_stretch heap n first (suc (suc m)) sound are wanted =
     let last : ℕ = first + suc m in
     let huge : Huge = record { 0 = last } in
     let to : last ≤ heap.config.huge = omega (arith, are.to) in
-    let is : IsLast heap (λ h. is_free_backed (hugepage heap h)) huge = record {
-      own = record { from = omega arith; to = to };
-      passes = are.pass last (omega arith) (omega arith);
-      behind = λ h past. are.behind h (omega arith);
-    } in
+    let is : IsLast heap (λ h. is_free_backed (hugepage heap h)) huge = grind (arith, are.pass last, are.behind) in
     let after : Heap = unbacked_span heap last 1 in
     let rest = free_stretch after (n - 256) first (suc m) (one_free heap huge sound is) (record {
       from = are.from;

@@ -1,7 +1,7 @@
 -- Unused hugepages of regions that are backed: which is the last.
 use Rattle.std.proofs.Common.{◌≡◌, ℕ, ◌<◌, ◌≤◌, true, false, ◌==◌, ◌&&◌, length, Some, None, sym, ap, ◌∙◌, inl, inr, arith}
-use Rattle.page_heap.proofs.Common.{cases_Bool, cases_lt, and_left, get_or_past, All-contains, none-some, RowView, Heap, hugepage}
-use Rattle.page_heap.proofs.Common.{row_of, is_kind_region, is_region, RegionRow, region_row_of, is_idle, IsHugepageOf, IsRegion, IsSound}
+use Rattle.page_heap.proofs.Common.{cases_Bool, cases_lt, and_left, get_or_past, none-some, RowView, Heap, hugepage}
+use Rattle.page_heap.proofs.Common.{row_of, is_kind_region, is_region, RegionRow, region_row_of, is_idle, IsHugepageOf, IsSound}
 use Rattle.page_heap.proofs.Common.{serves_at, spans_parts, is_Region, Regions, region_with, Inside, regions_of, nat_tests}
 use Rattle.tc_units.specs.declared.rows.RowKind.TheVariants as kind
 use Rattle.page_heap.proofs.Measured.{backed_whole}
@@ -43,9 +43,7 @@ idle_past {t} {heap} is h past = elim (cases_Bool (is_region (hugepage heap h)))
 pub region_there : {t : Inside} {heap : Heap} → IsHeap t heap → (h : ℕ) → (row : RegionRow) × (region_with t.regions h ≡ Some row) → IsHugepageOf heap.config.huge h
 region_there {t} {heap} whole h (row, found) =
     let of = region_of_row heap h row (ap (λ (all : Regions). region_with all h) (sym whole.shows.regions) ∙ found) in
-    let is = All-contains (IsRegion heap) heap.regions of.region whole.well.sound.regions of.known in
-    let parts = spans_parts heap.config.region h of.region of.spanned in
-    record { from = omega (arith, is.from); to = omega (arith, is.to) }
+    grind (arith, spans_parts heap.config.region h of.region of.spanned)
 
 -- none behind a hugepage, where none is behind a number and no region has one in between
 pub idle_behind : {t : Inside} {heap : Heap} → IsHeap t heap → (huge above : ℕ) → ((h : ℕ) → huge < h → h ≤ above → region_with t.regions h ≡ None) →

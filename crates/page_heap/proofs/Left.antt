@@ -119,12 +119,7 @@ module _ (old : Inside) (heap : Heap) (is : IsHeap old heap) (run : Run) (live :
     | inr ne ↦
         ap (λ t. cond t u (cond (spans (last - start) h start) false (p (hugepage heap h)))) (and_right b (spans 1 h last) (one_not h last ne))
         ∙ elim (cases_Bool (spans (last - start) h start)) [
-          | inl t ↦
-              (let parts = spans_parts (last - start) h start t in
-              let r = reaches_from h run (omega (arith, at'.near)) (omega (arith, at'.far, at'.first)) in
-              ap (λ s. cond s false (p (hugepage heap h))) t
-              ∙ sym (ap (λ s. p (cond s (g h (hugepage heap h)) (hugepage heap h))) r
-              ∙ ap (λ k. p (left_by k rest h (hugepage heap h))) (before_last h parts.0 (omega (arith, parts.1))) ∙ freed h (hugepage heap h)))
+          | inl t ↦ grind (arith, spans_parts (last - start) h start t, reaches_from h run, p (hugepage heap h), before_last h, freed h (hugepage heap h))
           | inr n ↦ grind (arith, nat_tests, reached, spans_from)
         ]
   ] where
@@ -189,15 +184,9 @@ module _ (old : Inside) (heap : Heap) (is : IsHeap old heap) (run : Run) (live :
           to = omega (arith, at'.most, at'.to);
           all = λ h a b. in_table h is_run (ap (λ (k : RowKind). not (shares k)) (at'.whole h a b));
         };
-        tail_span = record {
-          from = omega (arith, at'.from);
-          to = omega (arith, at'.ends, at'.most, at'.to);
-          all = grind (arith, nat_tests, in_table, at'.ends, at'.least, at'.tail);
-        };
+        tail_span = grind (arith, in_table);
         whole_out = out;
-        last_out = ap (λ (k : Cache). holds k last) is.shows.cache
-            ∙ holds_there heap last last_own.from (let all = sound.runs.arena in omega (arith, at'.to))
-            ∙ other_kind last is_kind_free refl refl at'.first (omega arith);
+        last_out = grind (arith, holds_there heap last last_own.from, other_kind last is_kind_free refl refl at'.first);
         counted = run_counted old heap is run live;
         sound = given_back_sound heap run sound live;
         makes = left_made old heap is run live _ _ _

@@ -1,5 +1,5 @@
 -- A run in a new region: the region opens, and then the run comes into it.
-use Rattle.std.proofs.Common.{◌≡◌, ℕ, ◌+◌, ◌-◌, ◌*◌, ◌/◌, ◌^◌, ◌<◌, ◌≤◌, true, false, not, cond, Bool, List, length, replicate, map, Contains, Some, None}
+use Rattle.std.proofs.Common.{◌≡◌, ℕ, ◌+◌, ◌-◌, ◌*◌, ◌/◌, ◌^◌, ◌<◌, ◌≤◌, true, false, not, cond, Bool, List, length, replicate, Contains, Some, None}
 use Rattle.std.proofs.Common.{refl, sym, ap, subst, ◌∙◌, inl, inr, arith}
 use Rattle.page_heap.proofs.Common.{cases_Bool, false≢true, false_from_ne_true, same_lists, length-replicate, get_or-replicate, length-map-range_with_len}
 use Rattle.page_heap.proofs.Common.{get_or-map-range_with_len, Run, Contains-new, Contains-old, map-with_item, free_from, HeapConfig, Heap, Hugepage, hugepage}
@@ -8,7 +8,6 @@ use Rattle.page_heap.proofs.Common.{region_page, with_new_region, in_new_region,
 use Rattle.page_heap.proofs.Common.{reaches_parts, spans_parts, spans_from, at, page_of, here, Means, Table, IsSpan, reached_by, Cache, Regions, region_with}
 use Rattle.page_heap.proofs.Common.{with_changed, joined, start_in, AreFreeIn, Inside, measured, measures, cache_of, regions_of, IsRouted, nat_tests}
 use Rattle.std.proofs.lemmas.List.Folds.{prefix_len-replicate}
-use Rattle.tc_units.specs.Sorted.{with_item}
 use Rattle.heap_rules.specs.Heap.{used_from}
 use Rattle.heap_rules.proofs.Regions.{runs_sound, kinds_inner, given_new_region}
 use Rattle.heap_rules.proofs.Routes.{free_not_region}
@@ -107,10 +106,7 @@ module _ (old : Inside) (heap : Heap) (is : IsHeap old heap) (n r : ℕ) (some :
       free_none heap h sound (own h e) (was_free h e) page (page_of page)))
 
   opened_regions : regions.with_region (regions_of heap) r ≡ regions_of between
-  opened_regions =
-      ap (λ (rows : List RegionRow). record (regions_of heap) { rows = rows })
-      (ap (λ (row : List Bool). with_item (λ (x : RegionRow). x.first) (record { first = r; used = row }) (map (region_row_of heap) heap.regions)) (sym row_is)
-      ∙ sym (map-with_item (region_row_of heap) (λ (k : ℕ). k) (λ (x : RegionRow). x.first) r heap.regions refl (λ k d l. refl)))
+  opened_regions = grind (arith, row_is, map-with_item (region_row_of heap) (λ (k : ℕ). k) (λ (x : RegionRow). x.first) r heap.regions refl (λ k d l. refl))
 
   opened_now : regions.with_region old.regions r ≡ regions_of between
   opened_now = ap (λ (all : Regions). regions.with_region all r) is.shows.regions ∙ opened_regions

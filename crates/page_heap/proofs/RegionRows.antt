@@ -14,10 +14,7 @@ use Rattle.page_heap.proofs.Frames.{map_same, map-map}
 find_row : (heap : Heap) (h : ℕ) (rs : List ℕ) → find (λ (row : RegionRow). spans heap.config.region h row.first)
     (map (region_row_of heap) rs) ≡ option_map (region_row_of heap) (find (spans heap.config.region h) rs)
 find_row heap h [] = refl
-find_row heap h (r ∷ rs) =
-    elim (spans heap.config.region h r) as (λ b. cond b (Some (region_row_of heap r))
-    (find (λ (row : RegionRow). spans heap.config.region h row.first) (map (region_row_of heap) rs)) ≡ option_map (region_row_of heap)
-    (cond b (Some r) (find (spans heap.config.region h) rs))) [ true ↦ refl | false ↦ find_row heap h rs ]
+find_row heap h (r ∷ rs) = grind (arith, find_row heap h rs)
 
 first_found : (p : ℕ → Bool) (rs : List ℕ) (r : ℕ) → Contains rs r → p r ≡ true → (s : ℕ) × (find p rs ≡ Some s)
 first_found p [] r has e = absurd (omega (arith, has.1))

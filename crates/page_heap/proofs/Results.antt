@@ -108,19 +108,12 @@ module _ (old : Inside) (heap : Heap) (is : IsHeap old heap) (run : Run) (live :
   pub left_made : (filler : List (Option Measures)) (cache : Cache) (regions : Regions) → filler ≡ measures (given_back heap run) →
       cache ≡ cache_of (given_back heap run) → regions ≡ regions_of (given_back heap run) → IsMade (given_back heap run) old.config filler cache regions
       (old.used - run.pages)
-  left_made filler cache regions measured free rows = record {
-    well = record {
-      limits = is.well.limits;
-      sound = given_back_sound heap run is.well.sound live;
-      ordered = is.shows.runs.without_one run heap.runs is.well.ordered;
-      routed = routed_given_back heap run is.well.sound live is.well.routed;
-    };
-    same = is.shows.config;
-    measured = measured;
-    free = free;
-    rows = rows;
-    sum = omega (arith, pages_rest heap run is.well.sound live, is.shows.used);
-  }
+  left_made filler cache regions measured free rows = grind (
+    arith,
+    given_back_sound heap run is.well.sound live,
+    routed_given_back heap run is.well.sound live is.well.routed,
+    pages_rest heap run is.well.sound live,
+  )
 
 -- No run came or left, and each hugepage serves what it did.
 pub same_made : (old : Inside) (heap : Heap) → IsHeap old heap → (f : ℕ → Hugepage → Hugepage) → ((h : ℕ) (x : Hugepage) → (f h x).kind ≡ x.kind) →

@@ -1,9 +1,9 @@
 -- By which route a live run was placed stays true of it while others come and go.
 use Rattle.std.proofs.Common.{◌≡◌, ℕ, ◌+◌, ◌*◌, ◌<◌, ◌≤◌, ◌⊎◌, ◌==◌, true, false, not, ◌&&◌, cond, max, List, get_or, All, Contains, refl, sym, ap}
 use Rattle.std.proofs.Common.{subst, ◌∙◌, inl, inr, arith}
-use Rattle.page_heap.proofs.Common.{list_any, cases_Bool, ne_eqb, and_parts, not-true, false≢true, All-contains, All-filter, Contains-get_or, Run, RowKind}
+use Rattle.page_heap.proofs.Common.{list_any, cases_Bool, and_parts, not-true, false≢true, All-contains, All-filter, Contains-get_or, Run, RowKind}
 use Rattle.page_heap.proofs.Common.{count_some, All-with_item, Heap, Hugepage, hugepage, each, reaches, with_run, allocation_count, is_free, is_region}
-use Rattle.page_heap.proofs.Common.{spans, left_by, emptied, used_regions, given_back, IsInside, IsHugepageOf, HasNoUsed, IsRegion, AreRunsSound, IsSound}
+use Rattle.page_heap.proofs.Common.{spans, left_by, used_regions, given_back, IsInside, IsHugepageOf, HasNoUsed, IsRegion, AreRunsSound, IsSound}
 use Rattle.page_heap.proofs.Common.{Contains-filter, counts_used, at, holds_from, reaches_parts, serves_at, is_Free, is_Region, remade, here}
 use Rattle.page_heap.proofs.Common.{fewer, own_run, left_runs, left_kinds, none_kept, range_used, has_used, IsRouted, nat_tests}
 use Rattle.tc_units.specs.declared.rows.RowKind.TheVariants as kind
@@ -92,13 +92,7 @@ module _ (heap : Heap) (run : Run) (sound : IsSound heap) (live : Contains heap.
       (cond (reaches h run) (left_by k rest h (hugepage heap h)) (hugepage heap h)).kind ≡ k
   kind_left z h kind.Free has e is = elim (reaches h run) as (λ b. (cond b (hugepage heap h) (hugepage heap h)).kind ≡ kind.Free) [ true ↦ is | false ↦ is ]
   kind_left z h kind.Region has e is = elim (reaches h run) as (λ b. (cond b (hugepage heap h) (hugepage heap h)).kind ≡ kind.Region) [ true ↦ is | false ↦ is ]
-  kind_left z h kind.Filler has e is =
-      (let x = hugepage heap h in
-      ap (λ b. (cond (reaches h run) (cond b (emptied x) x) x).kind) (ne_eqb (allocation_count rest h) 0 (not_none _ (reached_some rest z h has e)))
-      ∙ (elim (reaches h run) as (λ b. (cond b x x).kind ≡ kind.Filler) [ true ↦ is | false ↦ is ]))
-    where
-      not_none : (n : ℕ) → 0 < n → n ≡ 0 → ⊥
-      not_none n a b = omega arith
+  kind_left z h kind.Filler has e is = grind (arith, nat_tests, reached_some rest z h has e)
   kind_left z h kind.Run has e is = elim (cases_Bool (reaches h run)) [
     | inr n ↦ ap (λ b. (cond b (left_by kind.Run rest h (hugepage heap h)) (hugepage heap h)).kind) n ∙ is
     | inl t ↦

@@ -1,7 +1,7 @@
 -- What one live run more or less leaves as it was.
 use Rattle.std.proofs.Common.{◌≡◌, ℕ, zero, suc, ◌+◌, ◌*◌, ◌<◌, ◌≤◌, ◌==◌, Bool, true, false, not, ◌&&◌, cond, nat_lt, List, [], ◌∷◌, length, get_or, map}
 use Rattle.std.proofs.Common.{filter, count_by, sum_by, Contains, Option, Some, None, refl, sym, ap, ◌∙◌, inl, inr, arith}
-use Rattle.page_heap.proofs.Common.{list_any, range_with_len, cases_Bool, eq-eqb, sum_by-cons, Run, count-cons}
+use Rattle.page_heap.proofs.Common.{list_any, range_with_len, cases_Bool, sum_by-cons, Run, count-cons}
 use Rattle.page_heap.proofs.Common.{any_is_count, count_some, count_le, one-true, one-false, without_none, Heap, Hugepage, tier, is_filler, backs, is_used}
 use Rattle.page_heap.proofs.Common.{reaches, used_row, allocation_count, pages_of, with_run, IsSound, count-with, counts_used, holds_from}
 use Rattle.page_heap.proofs.Common.{unreached_unheld, count_rest, longest, begins_on, Measures, spare_of, measured, nat_tests}
@@ -27,9 +27,7 @@ went heap run sound live = record { counts = λ p e. none_less _ _ _ (count_rest
 -- functions of the numbers of a range
 pub over_range : {X : Type 0} (f g : ℕ → X) (first many : ℕ) → ((k : ℕ) → first ≤ k → k < first + many → f k ≡ g k) → map f (range_with_len first many) ≡ map g (range_with_len first many)
 over_range f g first zero same = refl
-over_range f g first (suc n) same =
-    let rest = over_range f g (first + 1) n (λ k a b. same k (omega arith) (omega arith)) in
-    rw (same first (omega arith) (omega arith), rest) refl
+over_range f g first (suc n) same = grind (arith, over_range f g (first + 1) n)
 
 pub count-map : {X : Type 0} (f : X → Bool) (xs : List X) → count_by (λ b. b) (map f xs) ≡ count_by f xs
 count-map f [] = refl
@@ -84,12 +82,7 @@ sum_rest f q (x ∷ xs) (suc k) d l t most =
 pub pages_rest : (heap : Heap) (run : Run) → IsSound heap → Contains heap.runs run → sum_by (λ r. r.pages) (without_run run heap.runs) + run.pages ≡ sum_by (λ r. r.pages) heap.runs
 pages_rest heap run sound live =
     let q : Run → Bool = λ r. r.first.0 == run.first.0 in
-    let le = count_le q (holds run.first.0) heap.runs (λ k d l e. grind (arith, nat_tests, holds_from)) in
-    let most : count_by q heap.runs ≤ 1 = omega arith in
-    let there : get_or heap.runs live.0 run ≡ run = live.2 in
-    let here = eq-eqb run.first.0 run.first.0 refl in
-    let all = sum_rest (λ (r : Run). r.pages) q heap.runs live.0 run live.1 (ap q there ∙ here) most in
-    ap (λ (r : Run). sum_by (λ s. s.pages) (without_run run heap.runs) + r.pages) (sym there) ∙ all
+    grind (arith, nat_tests, count_le q (holds run.first.0) heap.runs, holds_from, sum_rest (λ (r : Run). r.pages) q heap.runs live.0 run live.1)
 
 -- where a page isn't used, no run begins
 pub none_begins : (heap : Heap) (page : ℕ) → IsSound heap → is_used heap.runs page ≡ false → list_any (begins_on page) heap.runs ≡ false

@@ -99,9 +99,7 @@ module _ (old : Inside) (heap : Heap) (is : IsHeap old heap) (n h : ℕ) (some :
 
   -- the route of the run
   made : (k : ℕ) → h ≤ k → 256 * k < 256 * h + n → (hugepage after k).kind ≡ (becomes k).kind
-  made k a b =
-      ap (λ (x : Hugepage). x.kind) (here heap after.runs heap.regions f heap.counts sound.runs k (own k a (omega arith)))
-      ∙ ap (λ t. (cond t (becomes k) (hugepage heap k)).kind) (reaches_from k run (omega arith) b)
+  made k a b = grind (arith, here heap after.runs heap.regions f heap.counts sound.runs k, own k a, reaches_from k run)
 
   own_route : IsRouted after run
   own_route = grind (arith, nat_tests, made, tail_is, whole_is)

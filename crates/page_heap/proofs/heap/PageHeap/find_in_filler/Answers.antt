@@ -1,5 +1,5 @@
-use Rattle.std.proofs.Common.{◌≡◌, ℕ, ◌+◌, ◌*◌, ◌<◌, ◌≤◌, Some, [], IsSome, filter, option_map, refl, sym, ap, subst, ◌∙◌, arith}
-use Rattle.page_heap.proofs.Common.{length-map-range_with_len, best, hugepage, is_used, used_row, place_in_row, filler_rows, shares, is_Filler}
+use Rattle.std.proofs.Common.{◌≡◌, ℕ, ◌+◌, ◌*◌, ◌<◌, ◌≤◌, [], IsSome, filter, refl, sym, ap, subst, ◌∙◌, arith}
+use Rattle.page_heap.proofs.Common.{best, hugepage, used_row, filler_rows, shares, is_Filler}
 use Rattle.heap_rules.specs.FillerRows.{has_room}
 use Rattle.range_bits.proofs.RangeFacts.{best_there, best_is_fit}
 use Rattle.heap_rules.proofs.Given.{none_pass}
@@ -48,14 +48,10 @@ overflow_add-result c =
     let runs = d.args.self.now.runs in
     let h = d.in_ok-huge.huge.0 in
     let fit = best_is_fit (used_row runs h) d.args.n c.unwrap-start.result (sym (at d f) ∙ c.unwrap-start.ensures) in
-    let all = few h c.unwrap-start.result _ d.args.self.now.config.huge fit.0
-    (length-map-range_with_len (is_used runs) (256 * h) 256) f.own.to (is_heap d.self.invariant d.self.view_is).well.limits.huge_to in
-    omega (arith, all, c.from.ensures)
+    grind (arith, few h c.unwrap-start.result, is_heap d.self.invariant d.self.view_is)
 
 pub returns-clause-place : goal.returns-clause-place
 returns-clause-place c =
     let d = (goal.at.returns-clause-place c).After-best in
     let f = is (goal.at.returns-clause-place c).In_ok-huge in
-    ap (λ k. Some (256 * k + c.unwrap-start.result)) c.from.ensures
-    ∙ ap (option_map (λ start. 256 * d.in_ok-huge.huge.0 + start)) (sym c.unwrap-start.ensures ∙ at d f)
-    ∙ ap (place_in_row d.args.n) (sym f.first)
+    grind (arith, at d f)

@@ -22,9 +22,7 @@ here c =
 
 out_is : (cache : Cache) (first last x y : ℕ) → first ≡ x → last ≡ y → y - x ≤ used_from cache.taken (x - 1) → holds cache y ≡ false →
     (last - first ≤ used_from cache.taken (first - 1)) × (holds cache last ≡ false)
-out_is cache first last x y p q out held =
-    let start : x - 1 ≡ first - 1 = omega arith in
-    (omega (arith, ap (used_from cache.taken) start), ap (holds cache) q ∙ held)
+out_is cache first last x y p q out held = grind (arith)
 
 pub tell_left-requires : goal.tell_left-requires
 tell_left-requires c =
@@ -51,10 +49,7 @@ overflow_sub-self c = let h = here (goal.at.overflow_sub-self c).After-give_run 
 -- the cache with what the run had, by the hugepages' numbers
 freed_is : (heap : Heap) (cache new : Cache) (first last x y : ℕ) → new ≡ with_freed (with_backed_run cache first (last - first)) last (hugepage heap last) → first ≡ x → last ≡ y →
     new ≡ with_freed (with_backed_run cache x (y - x)) y (hugepage heap y)
-freed_is heap cache new first last x y e p q =
-    e
-    ∙ ap (λ i. with_freed (with_backed_run cache i (last - i)) last (hugepage heap last)) p
-    ∙ ap (λ i. with_freed (with_backed_run cache x (i - x)) i (hugepage heap i)) q
+freed_is heap cache new first last x y e p q = grind (arith)
 
 now : (c : After-from) →
     IsHeap (record c.self.inside {

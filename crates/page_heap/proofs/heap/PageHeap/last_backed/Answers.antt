@@ -15,9 +15,7 @@ returns-clause-last c =
     c.last_stretch.result c.last_stretch.ensures.last).0
 
 pub returns-clause-few : goal.returns-clause-few
-returns-clause-few c =
-    (found_last c.self.inside c.args.self.now (is_heap c.self.invariant c.self.view_is) c.args.n c.div_ceil.result (c.div_ceil.ensures ∙ ap (div_ceil c.args.n) c.from.ensures)
-    c.last_stretch.result c.last_stretch.ensures.last).1
+returns-clause-few c = grind (arith)
 
 pub returns-clause-none : goal.returns-clause-none
 returns-clause-none c =

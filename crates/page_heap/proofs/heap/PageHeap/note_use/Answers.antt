@@ -1,5 +1,4 @@
 use Rattle.std.proofs.Common.{◌≡◌, ℕ, ◌-◌, not, get_or, map, count_by, ap, ◌∙◌, arith}
-use Rattle.heap_rules.specs.CacheFlags.{limit}
 use Rattle.page_heap.proofs.Common.{Heap, is_free_backed, Cache, over_count, Inside, heap_of, cache_of, IsKept, over_limit}
 use Rattle.huge_cache.specs.Cache.{noted}
 use Rattle.page_heap.proofs.Steps.{count-map}
@@ -17,11 +16,7 @@ ready_is heap =
 over_is : (t : Inside) → IsKept t → (cache : Cache) (n : ℕ) → cache ≡ noted t.cache n → over_count cache ≡ over_limit (heap_of (record t { cache = cache }))
 over_is t kept cache n e =
     let heap : Heap = heap_of t in
-    let most : cache.most ≡ heap.config.cache = ap (λ (c : Cache). c.most) e ∙ ap (λ (c : Cache). c.most) kept.shows.cache in
-    let ready : count_by (λ b. b) (map not cache.unready) ≡ count_by is_free_backed heap.hugepages =
-    ap (λ (c : Cache). count_by (λ b. b) (map not c.unready)) e ∙ ap (λ (c : Cache). count_by (λ b. b) (map not c.unready)) kept.shows.cache
-    ∙ ready_is heap in
-    ap (λ m. m - limit cache.most cache.counts) ready ∙ ap (λ m. count_by is_free_backed heap.hugepages - limit m cache.counts) most
+    grind (arith, ready_is heap)
 
 pub returns-clause-over : goal.returns-clause-over
 returns-clause-over c = grind (arith, over_is, c.from.ensures, c.from-2.ensures, c.over.ensures, c.self.invariant, c.note_use.ensures)

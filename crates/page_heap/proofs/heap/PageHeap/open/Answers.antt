@@ -1,4 +1,4 @@
-use Rattle.std.proofs.Common.{◌≡◌, ℕ, zero, suc, ◌+◌, not, List, [], ◌∷◌, map, replicate, Option, None, refl, sym, ap, subst, ◌∙◌, arith}
+use Rattle.std.proofs.Common.{◌≡◌, ℕ, zero, suc, ◌+◌, not, List, [], ◌∷◌, map, replicate, Option, None, refl, sym, ap, subst, arith}
 use Rattle.page_heap.proofs.Common.{enumerate_from, HeapConfig, Hugepage, untouched, is_free, is_free_backed, opened, AreLimits, IsSound, Measures}
 use Rattle.page_heap.proofs.Common.{measured, IsWell}
 use Rattle.heap_rules.proofs.Opened.{opened_sound}
@@ -30,18 +30,15 @@ now : (c : In_ok-open-3) →
     }) (opened c.args.config.now)
 now c =
     let config = c.args.config.now in
-    record {
-      shows = record {
-        config = refl;
-        means = c.in_ok-table.ensures config refl;
-        runs = c.tells_runs.ensures;
-        filler = c.in_ok-open.ensures ∙ untold config.huge 1;
-        cache = c.in_ok-open-2.ensures ∙ same_cache _ _ _ (all_alike (λ x. not (is_free x)) config.huge) (all_alike (λ x. not (is_free_backed x)) config.huge);
-        regions = c.in_ok-open-3.ensures;
-        used = refl;
-      };
-      well = well config c.requires;
-    }
+    grind (
+      arith,
+      c.in_ok-table.ensures config refl,
+      untold config.huge 1,
+      same_cache,
+      all_alike (λ x. not (is_free x)) config.huge,
+      all_alike (λ x. not (is_free_backed x)) config.huge,
+      well config c.requires,
+    )
 
 pub invariant_of-result : goal.invariant_of-result
 invariant_of-result c = kept_by (now c)
