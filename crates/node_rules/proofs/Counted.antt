@@ -1,8 +1,9 @@
 -- Places of a list's elements among those that a test keeps, and the first elements of a list.
-use Rattle.std.proofs.Common.{◌≡◌, ℕ, zero, suc, ◌+◌, ◌<◌, ◌≤◌, Bool, true, false, cond, eqb, List, [], ◌∷◌, ◌++◌, length, map, take, filter, Option, Some, None, refl, sym, ap, ◌∙◌, subst, arith, inl, inr}
-use Rattle.std.specs.Prelude.{slice_get, count_by, sum_by}
-use Rattle.std.proofs.lemmas.Bool.{cases_Bool, eq-eqb}
+use Rattle.std.proofs.Common.{◌≡◌, ℕ, zero, suc, ◌+◌, Bool, cond, eqb, List, [], ◌∷◌, ◌++◌, map, take, filter, Some, refl, sym, ap, arith}
+use Rattle.std.specs.Prelude.{slice_get, count_by}
+use Rattle.std.proofs.lemmas.Bool.{eq-eqb}
 use Rattle.std.proofs.lemmas.List.Sums.{sum_by-cons, sum_by-append}
+use Rattle.std.proofs.lemmas.Bool.Decides.{nat_tests}
 use Rattle.node_rules.proofs.Splits.{IsSplit, filter_split}
 
 pub count_cons : (k j : ℕ) (js : List ℕ) → count_by (λ i. eqb i k) (j ∷ js) ≡ cond (eqb j k) 1 0 + count_by (λ i. eqb i k) js
@@ -15,27 +16,14 @@ count_push k j js = omega (arith, sum_by-append (λ i. cond (eqb i k) 1 0) js (j
 pub take_next : {X : Type 0} (xs : List X) (n : ℕ) (x : X) → slice_get xs n ≡ Some x → take (n + 1) xs ≡ take n xs ++ x ∷ []
 take_next [] n x at = absurd (cc)
 take_next (y ∷ ys) zero x at = let e : y ≡ x = cc in ap (λ z. z ∷ []) e
-take_next {X} (y ∷ ys) (suc n) x at =
-    let more : suc (n + 1) ≡ suc n + 1 = omega arith in
-    subst (λ m. take m (y ∷ ys) ≡ take (suc n) (y ∷ ys) ++ x ∷ []) more (ap (λ (zs : List X). y ∷ zs) (take_next ys n x at))
+take_next {X} (y ∷ ys) (suc n) x at = grind (arith, take_next ys n x)
 
 -- the element at a place, in what a test keeps: as many are kept before it as are before it
 pub kept_at : {X : Type 0} (f : X → ℕ) (k : ℕ) (xs : List X) (n : ℕ) → slice_get (map f xs) n ≡ Some k
     → slice_get (filter (λ (x : X). eqb (f x) k) xs) (count_by (λ j. eqb j k) (take n (map f xs))) ≡ slice_get xs n
 kept_at f k [] n at = absurd (cc)
 kept_at f k (x ∷ xs) zero at = let e : f x ≡ k = cc in rw (eq-eqb (f x) k e) refl
-kept_at {X} f k (x ∷ xs) (suc n) at =
-    let rest = kept_at f k xs n at in
-    let more = count_cons k (f x) (take n (map f xs)) in
-    let Is : ℕ → Type 0 = λ c. slice_get (filter (λ (y : X). eqb (f y) k) (x ∷ xs)) c ≡ slice_get xs n in
-    elim (cases_Bool (eqb (f x) k)) [
-      | inl here ↦
-          let c : count_by (λ j. eqb j k) (f x ∷ take n (map f xs)) ≡ suc (count_by (λ j. eqb j k) (take n (map f xs))) = omega (arith, rw here at more) in
-          subst Is (sym c) (rw here rest)
-      | inr away ↦
-          let c : count_by (λ j. eqb j k) (f x ∷ take n (map f xs)) ≡ count_by (λ j. eqb j k) (take n (map f xs)) = omega (arith, rw away at more) in
-          subst Is (sym c) (rw away rest)
-    ]
+kept_at {X} f k (x ∷ xs) (suc n) at = grind (arith, nat_tests, kept_at f k xs n, count_cons k (f x) (take n (map f xs)), f x)
 
 -- what stands at a place splits the list
 pub record IsAt {X : Type 0} (xs : List X) (x : X) : Type 0 where

@@ -3,7 +3,7 @@ use Rattle.std.proofs.Common.{◌≡◌, ℕ, ◌+◌, ◌<◌, ◌≤◌, List,
 use Rattle.std.proofs.Common.{slice_get, slice_set, option_map, map, zero, suc, [], ◌++◌, ◌∷◌}
 use Rattle.std.specs.Option.{option_and_then, option_to_list}
 use Rattle.tc_model.specs.Run.{pick}
-use Rattle.alloc_rules.proofs.Common.{ClassRow, FrontCalls, Input, NameState, Parts, Shard, Step, names_after, no_shard, number}
+use Rattle.alloc_rules.proofs.Common.{ClassRow, FrontCalls, Input, Parts, Shard, Step, no_shard, number}
 use Rattle.alloc_rules.proofs.Common.{Fits, IsReady, fits_step, middle_of, number_of, place_of, shard_at, slice_get-get_or, target_at}
 use Rattle.alloc_rules.proofs.Numbers.{get_front, get_heap, get_map, get_names, get_shard, set_heap, set_map, set_names, set_shard}
 use Rattle.alloc_rules.specs.declared.part.Part.{Part}
@@ -16,8 +16,7 @@ use Rattle.no_caches.specs.declared.front.NoSeat.{NoSeat}
 use Rattle.no_caches.specs.NoCaches.{no_calls, no_caches, about_none, fits}
 use Rattle.node_rules.specs.OneNode.{Node, Ask, answer, node_after}
 use Rattle.node_rules.specs.Numa.{NodeLocal}
-use Rattle.node_rules.specs.NodeActs.{asked_by, resumed, PlainWorld, with_names}
-use Rattle.node_rules.specs.NodeActs.{HasNode, node_rules}
+use Rattle.node_rules.specs.NodeActs.{asked_by, resumed, PlainWorld, with_names, HasNode, node_rules}
 use Rattle.node_rules.proofs.EachAct.{acts_are_asked}
 
 -- a part that an act at a shard fits is one of the shards that there are
@@ -52,10 +51,7 @@ module _ (input : Input) (w : PlainWorld) (n : Node) (has : HasNode w n) (as_man
     wants step is = grind arith
 
     picked_at : IsReady (node_rules input) (Fits input.rows fits) w t → (step : Step NoRow) → l.step ≡ step → Picked (asked_by input.rows l)
-    picked_at ready (does.Front row) is =
-        let want = wants (does.Front row) is in
-        let at = get_front 0 p few 0 in
-        record { node = record { names = has.names; is = grind arith }; goes = λ j a local' asks. grind arith }
+    picked_at ready (does.Front row) is = grind (arith, wants (does.Front row) is, does.Front row, get_front 0 p few 0)
     picked_at ready (does.Shard row) is =
         let k : ℕ = l.regs.class.0 in
         let want = wants (does.Shard row) is in
@@ -66,24 +62,12 @@ module _ (input : Input) (w : PlainWorld) (n : Node) (has : HasNode w n) (as_man
         let at = get_shard 0 p few k within ∙ ap (option_map part.Shard) (slice_get-get_or n.shards k no_shard within) in
         let law = (acts_are_asked e).shard (shard_at n.shards k) l in
         record { node = record { names = has.names; is = grind (arith, set_shard 0 p few) }; goes = λ j a local' asks. grind arith }
-    picked_at ready (does.Heap row) is =
-        let want = wants (does.Heap row) is in
-        let at = get_heap 0 p few in
-        let law = (acts_are_asked e).heap n.heap l in
-        record { node = record { names = has.names; is = grind (arith, set_heap 0 p few) }; goes = λ j a local' asks. grind arith }
-    picked_at ready (does.Map row) is =
-        let want = wants (does.Map row) is in
-        let at = get_map 0 p few in
-        let law = (acts_are_asked e).map n.map l in
-        record { node = record { names = has.names; is = grind (arith, set_map 0 p few) }; goes = λ j a local' asks. grind arith }
+    picked_at ready (does.Heap row) is = grind (arith, wants (does.Heap row) is, does.Heap row, get_heap 0 p few, acts_are_asked e, set_heap 0 p few)
+    picked_at ready (does.Map row) is = grind (arith, wants (does.Map row) is, does.Map row, get_map 0 p few, acts_are_asked e, set_map 0 p few)
     picked_at ready (does.Names row) is =
         let want = wants (does.Names row) is in
-        let at = get_names 0 p few in
-        let after : List NameState = (names_after e has.names l l.step).0 in
-        record { node = record { names = after; is = grind (arith, set_names 0 p few) }; goes = λ j a local' asks. grind arith }
-    picked_at ready does.Ended is =
-        let want = wants does.Ended is in
-        record { node = record { names = has.names; is = grind arith }; goes = λ j a local' asks. grind arith }
+        grind (arith, get_names 0 p few, set_names 0 p few)
+    picked_at ready does.Ended is = grind (arith, wants)
 
   -- of any thread, which is ready
   pub picked : IsReady (node_rules input) (Fits input.rows fits) w t → (o : Option NodeLocal) → slice_get w.locals t ≡ o

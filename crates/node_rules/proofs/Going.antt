@@ -1,23 +1,23 @@
 -- One pick more of memory nodes side by side: the world of its node goes on by it, those of the others stay, and what it decided is
 -- told.
-use Rattle.std.proofs.Common.{◌≡◌, ℕ, zero, suc, ◌+◌, ◌*◌, ◌<◌, ◌≤◌, ◌⊎◌, Bool, true, false, cond, eqb, List, [], ◌∷◌, ◌++◌, length, map, filter, fold, Option, Some, None, refl, sym, ap, ◌∙◌, subst, arith, inl, inr, All}
+use Rattle.std.proofs.Common.{◌≡◌, ℕ, ◌+◌, ◌*◌, ◌<◌, ◌≤◌, cond, eqb, List, [], ◌∷◌, ◌++◌, length, map, fold, Option, Some, refl, sym, ap, ◌∙◌, subst, arith, inl, inr, All}
 use Rattle.std.specs.Prelude.{slice_get, slice_set, option_map}
 use Rattle.std.specs.Option.{option_flatten}
 use Rattle.std.specs.List.{range_with_len}
-use Rattle.std.proofs.lemmas.Bool.{cases_Bool, cases_eq, eq-eqb, ne_eqb}
+use Rattle.std.proofs.lemmas.Bool.{cases_eq, eq-eqb, ne_eqb}
 use Rattle.std.proofs.lemmas.List.{append-nil, length-append, length-map, length-set, map-append}
 use Rattle.std.proofs.lemmas.List.Elements.{All-append, All-cons, All-nil, filter-append}
 use Rattle.std.proofs.lemmas.List.Sums.{fold-append}
 use Rattle.std.proofs.lemmas.Option.{slice_get_within}
-use Rattle.tc_model.specs.declared.machine.PartNo.{PartNo}
+use Rattle.std.proofs.lemmas.Bool.Decides.{nat_tests}
 use Rattle.tc_model.specs.declared.machine.TheConstants.{MOST_PICKS}
 use Rattle.tc_model.specs.declared.steps.Stepped.TheVariants as step
 use Rattle.tc_model.specs.declared.answers.CallLine.{CallLine}
-use Rattle.tc_model.specs.Calls.{picks_of, answers_at, AreAt, AreBelow, AreOfPicks, AreRising}
+use Rattle.tc_model.specs.Calls.{picks_of, answers_at, AreAt, AreOfPicks, AreRising}
 use Rattle.alloc_rules.proofs.Serving.{rising_with}
 use Rattle.alloc_rules.specs.Told.{lines_by}
 use Rattle.tc_model.specs.Input.{Input, script_of}
-use Rattle.tc_model.specs.Run.{Rules, World, start, pick, run, with_pair, world_of}
+use Rattle.tc_model.specs.Run.{Rules, World, start, pick, run, with_pair}
 use Rattle.tc_model.specs.Sound.{IsOrder, FitsThere}
 use Rattle.tc_model.specs.Steps.{stepped, AllMove}
 use Rattle.tc_model.proofs.CallSteps.{calls-step, picks-step, picks-push_other}
@@ -28,7 +28,6 @@ use Rattle.alloc_rules.specs.Fits.{Fits}
 use Rattle.alloc_rules.specs.Inputs.{IsValidInput, is_common, not_taken}
 use Rattle.alloc_rules.specs.Law as allocator
 use Rattle.alloc_rules.specs.Law.{IsAmong, IsPick}
-use Rattle.alloc_rules.specs.Machine.{parts_of}
 use Rattle.no_caches.specs.NoCaches.{no_caches, about_none, Holds, fits}
 use Rattle.no_caches.specs.NoCachesLaw.{lawful_in}
 use Rattle.node_rules.specs.Joined.{NodeLine, told_line, lines_at, AreOfNodes, IsAbout}
@@ -47,21 +46,11 @@ module _ {P L : Type 0} (r : Rules P (Beside L)) (k : ℕ) where
   pub picks_push : (w : World P (Beside L)) (ts : List ℕ) (t : ℕ)
       → picks_from r w k (ts ++ t ∷ []) ≡ picks_from r w k ts ++ cond (is_node k (node_next (fold (pick r) w ts) t)) (t ∷ []) []
   picks_push w [] t = refl
-  picks_push w (u ∷ us) t =
-      let rest = picks_push (pick r w u) us t in
-      elim (is_node k (node_next w u)) as (λ b. cond b (u ∷ picks_from r (pick r w u) k (us ++ t ∷ [])) (picks_from r (pick r w u) k (us ++ t ∷ []))
-      ≡ cond b (u ∷ picks_from r (pick r w u) k us) (picks_from r (pick r w u) k us) ++ cond (is_node k (node_next (fold (pick r) (pick r w u) us) t)) (t ∷ []) []) [
-        | true ↦ ap (λ (zs : List ℕ). u ∷ zs) rest
-        | false ↦ rest
-      ]
+  picks_push w (u ∷ us) t = grind (arith, picks_push (pick r w u) us t)
 
   picks_less : (w : World P (Beside L)) (ts : List ℕ) → length (picks_from r w k ts) ≤ length ts
   picks_less w [] = omega arith
-  picks_less w (u ∷ us) =
-      elim (is_node k (node_next w u)) as (λ b. length (cond b (u ∷ picks_from r (pick r w u) k us) (picks_from r (pick r w u) k us)) ≤ length (u ∷ us)) [
-        | true ↦ omega (arith, picks_less (pick r w u) us)
-        | false ↦ omega (arith, picks_less (pick r w u) us)
-      ]
+  picks_less w (u ∷ us) = grind (arith, picks_less (pick r w u) us)
 
 -- what was decided at a node, as it is told
 told_there : (huge k act t : ℕ) (ds : List Decided) → map (told t) (map (decided_at huge k act) ds) ≡ map (told_line huge) (map (λ d. record { node = k; line = told t d }) ds)
@@ -85,9 +74,7 @@ lines_other j k t [] other = refl
 lines_other j k t (d ∷ ds) other = rw (ne_eqb k j (λ e. other (sym e))) (lines_other j k t ds other)
 
 lines_both : (j : ℕ) (xs ys : List NodeLine) → lines_at j (xs ++ ys) ≡ lines_at j xs ++ lines_at j ys
-lines_both j xs ys =
-    ap (map (λ (x : NodeLine). x.line)) (filter-append (λ (x : NodeLine). eqb x.node j) xs ys)
-    ∙ map-append (λ (x : NodeLine). x.line) (filter (λ (x : NodeLine). eqb x.node j) xs) (filter (λ (x : NodeLine). eqb x.node j) ys)
+lines_both j xs ys = grind (arith, filter-append, map-append)
 
 -- what is told of a thread's calls is told of it, and of no other thread
 own_told : (t : ℕ) (ds : List Decided) → lines_by t (map (told t) ds) ≡ map (told t) ds
@@ -185,30 +172,20 @@ module _ (nodes : ℕ) (input : Input) (valid : IsValidInput input) (taken : not
     gone = with_act (rules_at nodes input 0) (λ (l : NodeLocal). l.answers) (width_of input) huge m.l k m.x act.1
 
     goes : run numa next ≡ with_pair w (k * width_of input + m.place.0) t (act.0, gone)
-    goes =
-        fold-append (pick numa) (start numa) order (t ∷ [])
-        ∙ pick_is (rules_at nodes input 0) (λ (l : NodeLocal). l.answers) (width_of input) huge (first_parts nodes input)
-        (map (first_thread nodes input) (range_with_len 0 input.asked.config.threads)) w t m
+    goes = grind (arith, fold-append, pick_is)
 
     -- the nodes' picks
     node_is : node_next w t ≡ Some k
     node_is = ap (λ (o : Option (Beside NodeLocal)). option_flatten (option_map node_now o)) m.at ∙ m.now
 
     order_here : order_at nodes input k next ≡ order_at nodes input k order ++ t ∷ []
-    order_here =
-        let bit : is_node k (node_next w t) ≡ true = ap (is_node k) node_is ∙ eq-eqb k k refl in
-        picks_push numa k (start numa) order t ∙ ap (λ b. order_at nodes input k order ++ cond b (t ∷ []) []) bit
+    order_here = grind (arith, nat_tests, node_is, picks_push)
 
     order_there : (j : ℕ) → (j ≡ k → ⊥) → order_at nodes input j next ≡ order_at nodes input j order
-    order_there j other =
-        let bit : is_node j (node_next w t) ≡ false = ap (is_node j) node_is ∙ ne_eqb k j (λ e. other (sym e)) in
-        picks_push numa j (start numa) order t ∙ (ap (λ b. order_at nodes input j order ++ cond b (t ∷ []) []) bit ∙ append-nil (order_at nodes input j order))
+    order_there j other = grind (arith, nat_tests, node_is, picks_push, append-nil)
 
     world_here : world_at nodes input k next ≡ with_pair v m.place.0 t act
-    world_here =
-        ap (run (rules_at nodes input k)) order_here
-        ∙ (fold-append (pick (rules_at nodes input k)) (start (rules_at nodes input k)) (order_at nodes input k order) (t ∷ [])
-        ∙ own_pick (rules_at nodes input k) v t m.x m.place m.p local m.want part m.goes)
+    world_here = grind (arith, order_here, fold-append, own_pick, local, part)
 
     at_here : IsAt next k
     at_here =
@@ -230,11 +207,7 @@ module _ (nodes : ℕ) (input : Input) (valid : IsValidInput input) (taken : not
         let a = h.at_nodes j in_nodes in
         let stays : world_at nodes input j next ≡ world_at nodes input j order = ap (run (rules_at nodes input j)) (order_there j other) in
         let of = other_world (width_of input) k w t m.place.0 m.l gone m.x act.1 m.p act.0 m.at m.here m.there in_width refl j (world_at nodes input j order) other a.of in
-        record {
-          moves = subst (IsOrder (rules_at nodes input j)) (sym (order_there j other)) a.moves;
-          of = subst (λ (z : World NodePart (Beside NodeLocal)). IsNodeOf (width_of input) j z (world_at nodes input j next)) (sym goes)
-              (subst (IsNodeOf (width_of input) j (with_pair w (k * width_of input + m.place.0) t (act.0, gone))) (sym stays) of);
-        }
+        grind (arith, moves, order_there j other, goes)
 
     each_at : (j : ℕ) → j < nodes → IsAt next j
     each_at j in_nodes =
@@ -254,31 +227,16 @@ module _ (nodes : ℕ) (input : Input) (valid : IsValidInput input) (taken : not
     was = among (order_at nodes input k order) m.x here.moves local
 
     is : IsAmong about_none (script_of t (asked_at nodes input.asked k).calls) act.1
-    is =
-        let there : slice_get (world_at nodes input k next).locals t ≡ Some act.1 =
-        ap (λ (z : World NodePart NodeLocal). slice_get z.locals t) world_here ∙ set_here v.locals t act.1 m.x local in
-        among (order_at nodes input k next) act.1 at_here.moves there
+    is = grind (arith, world_here, set_here v.locals t act.1 m.x local, local, among (order_at nodes input k next) act.1 at_here.moves)
 
     this_seen : IsSeen nodes input next t gone
     this_seen = thread_goes nodes input order (order_at nodes input k order) v.locals t k m.l m.x act.1 seen m.now m.here picked was is
 
     other_seen : (u : ℕ) (l : Beside NodeLocal) → (t ≡ u → ⊥) → IsSeen nodes input order u l → IsSeen nodes input next u l
-    other_seen u l apart s =
-        let p = s.thread in
-        record {
-          thread = record { here = p.here; route = p.route; acts = p.acts ∙ sym (picks-push_other u t order apart); decided = p.decided; ended = p.ended; within = p.within; slow = p.slow };
-          quiet = s.quiet;
-          calls = s.calls;
-        }
+    other_seen u l apart s = grind (arith, here, picks-push_other u t order apart)
 
     each_seen : (u : ℕ) (l : Beside NodeLocal) → slice_get (slice_set w.locals t gone) u ≡ Some l → IsSeen nodes input next u l
-    each_seen u l at =
-        elim (cases_eq t u) [
-          | inl same ↦
-              let mine : gone ≡ l = let e : Some gone ≡ Some l = sym (set_here w.locals t gone m.l m.at) ∙ (ap (slice_get (slice_set w.locals t gone)) same ∙ at) in cc in
-              subst (λ n. IsSeen nodes input next n l) same (subst (IsSeen nodes input next t) mine this_seen)
-          | inr apart ↦ other_seen u l apart (h.threads u l (sym (set_elsewhere w.locals t u gone apart) ∙ at))
-        ]
+    each_seen u l at = grind (arith, nat_tests, set_here w.locals t gone m.l m.at, this_seen, other_seen u l, set_elsewhere w.locals t u gone)
 
     -- what it decided
     abbrev says : List Decided
@@ -291,20 +249,10 @@ module _ (nodes : ℕ) (input : Input) (valid : IsValidInput input) (taken : not
     at_pick = acts_are huge k m.l.acts (picks_of t order) picked.new seen.thread.acts
 
     this_rises : AreRising (λ (d : Decided). d.act) 0 gone.answers
-    this_rises =
-        let below : AreBelow (λ (d : Decided). d.act) (picks_of t order) m.l.answers =
-        subst (λ (o : Option (Beside NodeLocal)). AreBelow (λ (d : Decided). d.act) (picks_of t order) (answers_at (λ (l : Beside NodeLocal). l.answers) o)) m.at (h.of_picks t) in
-        subst (AreRising (λ (d : Decided). d.act) 0) (sym pushed)
-        (rising_with (λ (d : Decided). d.act) (picks_of t order) m.l.answers says (h.rising t m.l m.at) below at_pick (omega (arith, length-map picked.new (decided_at huge k m.l.acts), picked.few)))
+    this_rises = grind (arith, pushed, rising_with, at_pick, length-map)
 
     each_rises : (u : ℕ) (l : Beside NodeLocal) → slice_get (slice_set w.locals t gone) u ≡ Some l → AreRising (λ (d : Decided). d.act) 0 l.answers
-    each_rises u l at =
-        elim (cases_eq t u) [
-          | inl same ↦
-              let mine : gone ≡ l = let e : Some gone ≡ Some l = sym (set_here w.locals t gone m.l m.at) ∙ (ap (slice_get (slice_set w.locals t gone)) same ∙ at) in cc in
-              subst (λ (x : Beside NodeLocal). AreRising (λ (d : Decided). d.act) 0 x.answers) mine this_rises
-          | inr apart ↦ h.rising u l (sym (set_elsewhere w.locals t u gone apart) ∙ at)
-        ]
+    each_rises u l at = grind (arith, nat_tests, set_here, this_rises, set_elsewhere)
 
     abbrev next_lines : List NodeLine
     next_lines = h.lines ++ new_lines k t picked.new
@@ -320,51 +268,22 @@ module _ (nodes : ℕ) (input : Input) (valid : IsValidInput input) (taken : not
     Tells u = lines_by u (numa_calls (slice_set w.locals t gone) next) ≡ map (told u) (answers_at (λ (l : Beside NodeLocal). l.answers) (slice_get (slice_set w.locals t gone) u))
 
     tells_this : Tells t
-    tells_this =
-        let mine : slice_get (slice_set w.locals t gone) t ≡ Some gone = set_here w.locals t gone m.l m.at in
-        let had : lines_by t (numa_calls w.locals order) ≡ map (told t) m.l.answers =
-        h.tells t ∙ ap (λ o. map (told t) (answers_at (λ (l : Beside NodeLocal). l.answers) o)) m.at in
-        lines_next t ∙ (ap (λ (xs : List CallLine). xs ++ lines_by t (map (told t) says)) had
-        ∙ (ap (λ (xs : List CallLine). map (told t) m.l.answers ++ xs) (own_told t says)
-        ∙ (sym (map-append (told t) m.l.answers says)
-        ∙ (ap (map (told t)) (sym pushed) ∙ ap (λ o. map (told t) (answers_at (λ (l : Beside NodeLocal). l.answers) o)) (sym mine)))))
+    tells_this = grind (arith, set_here, lines_next, own_told, map-append, pushed)
 
     tells_other : (u : ℕ) → (t ≡ u → ⊥) → Tells u
-    tells_other u apart =
-        lines_next u ∙ (ap (λ (xs : List CallLine). lines_by u (numa_calls w.locals order) ++ xs) (other_told t u says apart)
-        ∙ (append-nil (lines_by u (numa_calls w.locals order))
-        ∙ (h.tells u ∙ ap (λ o. map (told u) (answers_at (λ (l : Beside NodeLocal). l.answers) o)) (sym (set_elsewhere w.locals t u gone apart)))))
+    tells_other u apart = grind (arith, lines_next, other_told, append-nil, set_elsewhere)
 
     each_tells : (u : ℕ) → Tells u
-    each_tells u =
-        elim (cases_eq t u) [
-          | inl same ↦ subst Tells same tells_this
-          | inr apart ↦ tells_other u apart
-        ]
+    each_tells u = grind (arith, nat_tests, tells_this, tells_other)
 
     told_next : numa_calls (slice_set w.locals t gone) next ≡ map (told_line huge) next_lines
-    told_next =
-        calls_next
-        ∙ (ap (λ (xs : List CallLine). xs ++ map (told t) says) h.told
-        ∙ (ap (λ (xs : List CallLine). map (told_line huge) h.lines ++ xs) (told_there huge k m.l.acts t picked.new)
-        ∙ sym (map-append (told_line huge) h.lines (new_lines k t picked.new))))
+    told_next = grind (arith, calls_next, told_there huge k m.l.acts t picked.new, map-append (told_line huge) h.lines (new_lines k t picked.new))
 
     told_here : lines_at k next_lines ≡ allocator.calls (world_at nodes input k next).locals (order_at nodes input k next)
-    told_here =
-        lines_both k h.lines (new_lines k t picked.new)
-        ∙ (ap (λ (xs : List CallLine). xs ++ lines_at k (new_lines k t picked.new)) (h.told_at k low)
-        ∙ (ap (λ (xs : List CallLine). allocator.calls v.locals (order_at nodes input k order) ++ xs) (lines_own k t picked.new)
-        ∙ (sym picked.told
-        ∙ (ap (λ (z : World NodePart NodeLocal). allocator.calls z.locals (order_at nodes input k order ++ t ∷ [])) (sym world_here)
-        ∙ ap (allocator.calls (world_at nodes input k next).locals) (sym order_here)))))
+    told_here = grind (arith, lines_both, low, lines_own, world_here, order_here)
 
     told_other : (j : ℕ) → j < nodes → (j ≡ k → ⊥) → lines_at j next_lines ≡ allocator.calls (world_at nodes input j next).locals (order_at nodes input j next)
-    told_other j in_nodes other =
-        lines_both j h.lines (new_lines k t picked.new)
-        ∙ (ap (λ (xs : List CallLine). lines_at j h.lines ++ xs) (lines_other j k t picked.new other)
-        ∙ (append-nil (lines_at j h.lines)
-        ∙ (h.told_at j in_nodes
-        ∙ ap (λ (o : List ℕ). allocator.calls (run (rules_at nodes input j) o).locals o) (sym (order_there j other)))))
+    told_other j in_nodes other = grind (arith, lines_both, lines_other, append-nil, order_there)
 
     each_told : (j : ℕ) → j < nodes → lines_at j next_lines ≡ allocator.calls (world_at nodes input j next).locals (order_at nodes input j next)
     each_told j in_nodes =

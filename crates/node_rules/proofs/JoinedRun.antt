@@ -1,12 +1,12 @@
 -- Calls of several nodes, each node's a run on disjoint blocks, are one such run as they are told.
-use Rattle.std.proofs.Common.{◌≡◌, ◌≢◌, ℕ, ◌+◌, ◌*◌, ◌<◌, ◌≤◌, true, List, [], ◌∷◌, ◌++◌, length, map, Some, refl, sym, ap, ◌∙◌, subst, inr, arith}
+use Rattle.std.proofs.Common.{◌≡◌, ◌≢◌, ℕ, ◌+◌, ◌*◌, ◌<◌, ◌≤◌, true, List, [], ◌∷◌, ◌++◌, length, map, Some, refl, sym, ap, ◌∙◌, subst, arith}
 use Rattle.std.specs.Prelude.{◌==◌, All, find, option_map, sum_by}
 use Rattle.std.specs.List.{list_any}
-use Rattle.std.proofs.lemmas.Bool.{eq-eqb}
 use Rattle.std.proofs.lemmas.List.{append-nil, append_assoc, map-append, length-append, length-map}
 use Rattle.std.proofs.lemmas.List.Elements.{All-nil, All-cons, All-head, All-tail, All-weaker}
 use Rattle.std.proofs.lemmas.List.Sums.{sum_by-append}
 use Rattle.std.proofs.lemmas.Nat.{mul-le}
+use Rattle.std.proofs.lemmas.Bool.Decides.{nat_tests}
 use Rattle.tc_units.specs.Arena.{IsInArena}
 use Rattle.tc_units.specs.Units.{huge_bytes}
 use Rattle.tc_model.specs.declared.calls.Call.{Call}
@@ -15,7 +15,6 @@ use Rattle.tc_model.specs.declared.answers.Answer.{Answer}
 use Rattle.tc_model.specs.declared.answers.Answer.TheVariants.{Block, Freed, FreedNull, Busy}
 use Rattle.tc_model.specs.declared.answers.CallLine.{CallLine}
 use Rattle.tc_model.specs.Blocks.{Extent, meets, blocks_with, blocks_after, frees, IsAllowed, IsBlockRun}
-use Rattle.holdings.proofs.Blocks.{place_of}
 use Rattle.holdings.proofs.CallFacts.{blocks_after-push, IsBlockRun-none, IsBlockRun-push, find_all}
 use Rattle.node_rules.specs.Joined.{NodeLine, IsAbout, AreOfNodes, AreJoined, IsInNode, bytes_before, shifted, told_line, lines_at}
 use Rattle.node_rules.proofs.Shifting.{shift, blocks_shift, bytes_shift, any_shift, find_shift}
@@ -50,11 +49,7 @@ record Stands (nodes huge : ℕ) (round : ℕ → ℕ) (xs : List NodeLine) : Ty
   blocks : blocks_after (map (told_line huge) xs) ≡ joined (node_blocks huge xs) 0 nodes
 
 stands_none : (nodes huge : ℕ) (round : ℕ → ℕ) → Stands nodes huge round []
-stands_none nodes huge round = record {
-  run = IsBlockRun-none round (nodes * huge);
-  inside = λ k. All-nil (IsWithin (start huge) k);
-  blocks = sym (joined_none 0 nodes);
-}
+stands_none nodes huge round = grind (arith, IsBlockRun-none round (nodes * huge), All-nil, joined_none 0 nodes)
 
 -- One call more, at a node that allows it.
 module _ (nodes huge : ℕ) (round : ℕ → ℕ) (xs : List NodeLine) (stand : Stands nodes huge round xs) (k : ℕ) (there : k < nodes) where
@@ -82,10 +77,7 @@ module _ (nodes huge : ℕ) (round : ℕ → ℕ) (xs : List NodeLine) (stand : 
         ∙ find_joined (start huge) (start_rises huge) k block found_within blocks stand.inside block found 0 nodes (omega arith) (omega (arith, there))
 
   fits : (call : Call) (answer : Answer) → IsAllowed huge round mine call answer → FitsIn (start huge) k (shifted before answer)
-  fits call (Block addr len) allowed = in_node huge k (record { addr = addr.0; len = len }) (place_of huge round mine call addr len allowed).inside
-  fits (Free label) (Freed addr) allowed = (allowed.len, found_within addr.0 allowed.len allowed.stands)
-  fits call (Freed addr) allowed = absurd allowed
-  fits call answer allowed = tt
+  fits call answer allowed = grind (arith, in_node, found_within)
 
   allowed_told : (call : Call) (answer : Answer) → ((label : ℕ) → frees label call ≡ true → All (IsAt label k) xs)
       → IsAllowed huge round mine call answer → IsAllowed (nodes * huge) round (map (told_line huge) xs) call (shifted before answer)
@@ -95,20 +87,8 @@ module _ (nodes huge : ℕ) (round : ℕ → ℕ) (xs : List NodeLine) (stand : 
       let unmet = any_shift before b (blocks_after mine) ∙ allowed.1.apart in
       let apart = unmet_by_all (start huge) (start_rises huge) k (shift before b) here (node_blocks huge xs) stand.inside unmet nodes in
       (allowed.0, record { inside = in_all nodes huge k (shift before b) there here; apart = ap (list_any (meets (shift before b))) stand.blocks ∙ apart })
-  allowed_told (Free label) (Freed addr) own allowed =
-      let at = own label.0 (eq-eqb label.0 label.0 refl) in
-      record {
-        len = allowed.len;
-        answered = answer_told huge k label.0 xs at ∙ ap (option_map (shifted before)) allowed.answered;
-        stands = found_told addr.0 allowed.len allowed.stands;
-        once = freed_told huge k label.0 xs at ∙ allowed.once;
-      }
-  allowed_told (Free label) FreedNull own allowed =
-      let at = own label.0 (eq-eqb label.0 label.0 refl) in
-      record {
-        answered = answer_told huge k label.0 xs at ∙ ap (option_map (shifted before)) allowed.answered;
-        once = freed_told huge k label.0 xs at ∙ allowed.once;
-      }
+  allowed_told (Free label) (Freed addr) own allowed = grind (arith, nat_tests, answer_told, found_told, freed_told)
+  allowed_told (Free label) FreedNull own allowed = grind (arith, nat_tests, answer_told, freed_told)
   allowed_told call (Busy owner) own allowed = allowed
   allowed_told call answer own allowed = allowed
 
@@ -121,10 +101,7 @@ module _ (nodes huge : ℕ) (round : ℕ → ℕ) (xs : List NodeLine) (stand : 
   answer = (told_line huge x).answer
 
   its_blocks : node_blocks huge longer x.node ≡ blocks_with (node_blocks huge xs x.node) answer
-  its_blocks =
-      let n : ℕ = bytes_before huge x.node in
-      ap (λ cs. map (shift n) (blocks_after cs)) (lines_here xs x []) ∙ ap (map (shift n)) (blocks_after-push (lines_at x.node xs) x.line)
-      ∙ blocks_shift n (blocks_after (lines_at x.node xs)) x.line.answer
+  its_blocks = grind (arith, shift, lines_here, blocks_after-push, blocks_shift)
 
   others : (j : ℕ) → j ≢ x.node → node_blocks huge longer j ≡ node_blocks huge xs j
   others j other = ap (λ cs. map (shift (bytes_before huge j)) (blocks_after cs)) (lines_away j xs x other)
@@ -173,17 +150,13 @@ module _
 
     same_home : (label : ℕ) → frees label x.line.call ≡ true → All (IsAt label x.node) earlier
     same_home label freed =
-        let all : All AtHome (earlier ++ x ∷ later) = subst (All AtHome) (sym is) of.own in
-        let home = All-head AtHome x later (all_back AtHome earlier (x ∷ later) all) label (inr freed) in
-        All-weaker AtHome (IsAt label x.node) (λ y at about. at label about ∙ sym home) earlier (all_front AtHome earlier (x ∷ later) all)
+        grind (arith, All-head AtHome x later, all_back AtHome earlier (x ∷ later), All-weaker AtHome (IsAt label x.node), all_front AtHome earlier (x ∷ later))
 
     next : Stands nodes huge round earlier → Stands nodes huge round (earlier ++ x ∷ [])
     next stand = stands_push nodes huge round earlier stand x there same_home allowed
 
     lies : Stands nodes huge round earlier → (addr len : ℕ) → (told_line huge x).answer ≡ Block (record { 0 = addr }) len → IsInNode huge x.node addr len
-    lies stand addr len told =
-        let w = subst (FitsIn (start huge) x.node) told (fits nodes huge round earlier stand x.node there x.line.call x.line.answer allowed) in
-        record { from = w.from; to = w.to }
+    lies stand addr len told = grind (arith, fits, there, allowed)
 
     freed_lies : Stands nodes huge round earlier → (addr : ℕ) → (told_line huge x).answer ≡ Freed (record { 0 = addr }) → (len : ℕ) × (0 < len) × IsInNode huge x.node addr len
     freed_lies stand addr told =

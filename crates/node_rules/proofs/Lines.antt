@@ -1,26 +1,22 @@
 -- The calls of a node among those of all: which they are, and what they say of a label whose calls are all at that node.
-use Rattle.std.proofs.Common.{◌≡◌, ◌≢◌, ℕ, Bool, eqb, List, [], ◌∷◌, ◌++◌, map, filter, refl, sym, ap, ◌∙◌, inl, inr, arith}
+use Rattle.std.proofs.Common.{◌≡◌, ◌≢◌, ℕ, List, [], ◌∷◌, ◌++◌, map, refl, ◌∙◌, arith}
 use Rattle.std.specs.Prelude.{All, option_map}
-use Rattle.std.proofs.lemmas.Bool.{cases_Bool, eq-eqb, ne_eqb}
+use Rattle.std.proofs.lemmas.Bool.{eq-eqb}
 use Rattle.std.proofs.lemmas.Bool.Decides.{nat_tests}
 use Rattle.std.proofs.lemmas.List.{append-nil, map-append}
 use Rattle.std.proofs.lemmas.List.Elements.{All-head, All-tail, filter-append}
-use Rattle.tc_model.specs.Blocks.{allocates, frees, answer_to, freed_in}
+use Rattle.tc_model.specs.Blocks.{answer_to, freed_in}
 use Rattle.node_rules.specs.Joined.{NodeLine, IsAbout, bytes_before, shifted, told_line, lines_at}
 
 pub lines_append : (k : ℕ) (xs ys : List NodeLine) → lines_at k (xs ++ ys) ≡ lines_at k xs ++ lines_at k ys
-lines_append k xs ys =
-    let mine : NodeLine → Bool = λ x. eqb x.node k in
-    ap (map (λ (x : NodeLine). x.line)) (filter-append mine xs ys) ∙ map-append (λ (x : NodeLine). x.line) (filter mine xs) (filter mine ys)
+lines_append k xs ys = grind (arith, filter-append, map-append)
 
 -- those from a call at the node on, and those before a call at another
 pub lines_here : (xs : List NodeLine) (x : NodeLine) (ys : List NodeLine) → lines_at x.node (xs ++ x ∷ ys) ≡ lines_at x.node xs ++ x.line ∷ lines_at x.node ys
 lines_here xs x ys = let here = eq-eqb x.node x.node refl in lines_append x.node xs (x ∷ ys) ∙ rw here refl
 
 pub lines_away : (k : ℕ) (xs : List NodeLine) (x : NodeLine) → k ≢ x.node → lines_at k (xs ++ x ∷ []) ≡ lines_at k xs
-lines_away k xs x other =
-    let away = ne_eqb x.node k (λ is. other (sym is)) in
-    lines_append k xs (x ∷ []) ∙ rw away (append-nil (lines_at k xs))
+lines_away k xs x other = grind (arith, nat_tests, lines_append, append-nil)
 
 -- a call of a label is at a node
 abbrev pub IsAt : ℕ → ℕ → NodeLine → Type 0
@@ -30,14 +26,8 @@ module _ (huge k label : ℕ) where
   pub answer_told : (xs : List NodeLine) → All (IsAt label k) xs
       → answer_to label (map (told_line huge) xs) ≡ option_map (shifted (bytes_before huge k)) (answer_to label (lines_at k xs))
   answer_told [] own = refl
-  answer_told (x ∷ xs) own =
-      let rest = answer_told xs (All-tail (IsAt label k) x xs own) in
-      let at = All-head (IsAt label k) x xs own in
-      elim (cases_Bool (allocates label x.line.call)) [ inl is ↦ (let same = at (inl is) in grind (arith, nat_tests)) | inr other ↦ grind (arith, nat_tests) ]
+  answer_told (x ∷ xs) own = grind (arith, nat_tests, answer_told xs (All-tail (IsAt label k) x xs own), All-tail, All-head)
 
   pub freed_told : (xs : List NodeLine) → All (IsAt label k) xs → freed_in label (map (told_line huge) xs) ≡ freed_in label (lines_at k xs)
   freed_told [] own = refl
-  freed_told (x ∷ xs) own =
-      let rest = freed_told xs (All-tail (IsAt label k) x xs own) in
-      let at = All-head (IsAt label k) x xs own in
-      elim (cases_Bool (frees label x.line.call)) [ inl is ↦ (let same = at (inr is) in grind (arith, nat_tests)) | inr other ↦ grind (arith, nat_tests) ]
+  freed_told (x ∷ xs) own = grind (arith, nat_tests, freed_told xs (All-tail (IsAt label k) x xs own), All-tail, All-head)

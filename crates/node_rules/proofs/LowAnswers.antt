@@ -1,14 +1,12 @@
 -- Addresses that a node answers are low: its blocks lie in its arena.
-use Rattle.std.proofs.Common.{◌≡◌, ℕ, ◌+◌, ◌*◌, ◌^◌, ◌<◌, ◌≤◌, ◌⊎◌, true, eqb, List, [], ◌∷◌, ◌++◌, length, map, filter, refl, sym, ap, ◌∙◌, subst, arith, inl, inr, All}
-use Rattle.std.proofs.lemmas.Bool.{eq-eqb}
-use Rattle.std.proofs.lemmas.List.{append-nil, append_assoc}
-use Rattle.std.proofs.lemmas.List.Elements.{All-nil, All-cons, All-from_recursion}
+use Rattle.std.proofs.Common.{◌≡◌, ℕ, ◌+◌, ◌<◌, ◌≤◌, List, [], ◌∷◌, ◌++◌, length, map, refl, ap, arith, All}
+use Rattle.std.proofs.lemmas.List.Elements.{All-nil, All-cons}
 use Rattle.tc_model.specs.declared.answers.Answer.{Answer}
 use Rattle.tc_model.specs.declared.answers.Answer.TheVariants.{Block, NoBlock, Freed, FreedNull, Released, Drained, Busy, CapSet, OverLimit, OverStatic}
 use Rattle.tc_model.specs.declared.answers.CallLine.{CallLine}
 use Rattle.tc_model.specs.Blocks.{IsBlockRun}
 use Rattle.call_steps.specs.Local.{Decided, told}
-use Rattle.node_rules.specs.Joined.{NodeLine, IsAbout, AreOfNodes, AreJoined, bytes_before, lines_at, shifted}
+use Rattle.node_rules.specs.Joined.{NodeLine, AreJoined, bytes_before, lines_at, shifted}
 use Rattle.node_rules.specs.NumaLaw.{IsLow}
 use Rattle.node_rules.proofs.JoinedRun.{block_runs_join}
 
@@ -30,15 +28,10 @@ alone_both (e ∷ cs) c ds = ap (λ (xs : List NodeLine). record { node = 0; lin
 
 module _ (huge : ℕ) (few : huge ≤ 4096) (round : ℕ → ℕ) where
   joined : (cs : List CallLine) → IsBlockRun huge round cs → AreJoined 1 huge round (alone cs)
-  joined cs run =
-      block_runs_join 1 huge round (λ label. 0) (alone cs)
-      (record { there = each_alone (λ (x : NodeLine). x.node < 1) (λ c. omega arith) cs; own = each_alone (λ (x : NodeLine). (label : ℕ) → IsAbout label x → x.node ≡ 0) (λ c label about. refl) cs })
-      (λ k low. let zero_is : 0 ≡ k = omega (arith, low) in subst (λ j. IsBlockRun huge round (lines_at j (alone cs))) zero_is (subst (IsBlockRun huge round) (sym (alone_is cs)) run))
+  joined cs run = grind (arith, block_runs_join 1 huge round (λ label. 0) (alone cs), each_alone (λ (x : NodeLine). x.node < 1), alone_is cs)
 
   low_by : (cs : List CallLine) (c : CallLine) (ds : List CallLine) (answer : Answer) → IsBlockRun huge round (cs ++ c ∷ ds) → c.answer ≡ answer → IsLow answer
-  low_by cs c ds (Block addr len) run is =
-      let lies = (joined (cs ++ c ∷ ds) run).inside (alone cs) (record { node = 0; line = c }) (alone ds) (addr.0 + bytes_before huge 0) len (alone_both cs c ds) (ap (shifted (bytes_before huge 0)) is) in
-      omega (arith, lies.to, few)
+  low_by cs c ds (Block addr len) run is = grind (arith, joined (cs ++ c ∷ ds) run, alone_both cs c ds)
   low_by cs c ds (Freed addr) run is =
       let lies = (joined (cs ++ c ∷ ds) run).freed (alone cs) (record { node = 0; line = c }) (alone ds) (addr.0 + bytes_before huge 0) (alone_both cs c ds) (ap (shifted (bytes_before huge 0)) is) in
       omega (arith, lies.2.to, few)

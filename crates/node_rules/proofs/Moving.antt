@@ -1,16 +1,12 @@
 -- A pick of machines side by side: what it finds, what it leaves, and that it is one of its node's own machine.
-use Rattle.std.proofs.Common.{◌≡◌, ℕ, zero, suc, ◌+◌, ◌*◌, ◌<◌, ◌≤◌, ◌⊎◌, Bool, true, false, cond, List, [], ◌∷◌, ◌++◌, length, Option, Some, None, option_and_then, refl, sym, ap, ◌∙◌, subst, arith, inl, inr}
-use Rattle.std.specs.Prelude.{slice_get, slice_set, option_map}
-use Rattle.std.specs.Option.{option_flatten}
-use Rattle.std.proofs.lemmas.Bool.{cases_Bool, cases_eq, false≢true}
-use Rattle.std.proofs.lemmas.List.{length-set}
+use Rattle.std.proofs.Common.{◌≡◌, ℕ, ◌+◌, ◌*◌, ◌<◌, ◌≤◌, false, cond, List, Option, Some, None, option_and_then, refl, ap, ◌∙◌, arith}
+use Rattle.std.specs.Prelude.{slice_get, option_map}
 use Rattle.tc_model.specs.declared.machine.PartNo.{PartNo}
 use Rattle.tc_model.specs.declared.steps.Stepped.TheVariants as step
 use Rattle.tc_model.specs.Run.{Rules, World, pick, act_by, act_at, act_on, with_pair}
 use Rattle.tc_model.specs.Steps.{stepped, stepped_by, stepped_at, stepped_on}
-use Rattle.tc_model.proofs.Lists.{set_here, set_elsewhere}
 use Rattle.call_steps.specs.Local.{Decided}
-use Rattle.node_rules.specs.Beside.{Beside, beside, node_now, local_now, part_at, want_by, with_act, after_by, IsNodeOf}
+use Rattle.node_rules.specs.Beside.{Beside, beside, node_now, part_at, want_by, with_act}
 
 -- A machine's thread whose next act doesn't wait moves, and leaves the pair of that act.
 module _ {P L : Type 0} (one : Rules P L) (v : World P L) (t : ℕ) (x : L) (place : PartNo) (p : P) (at : slice_get v.locals t ≡ Some x)
@@ -46,11 +42,7 @@ module _ {P L : Type 0} (one : Rules P L) (answers : L → List Decided) (width 
 
     unless_waits : (l : Beside L) (k : ℕ) (x : L) (place : PartNo) (p : P) → slice_get w.locals t ≡ Some l → node_now l ≡ Some k → slice_get l.here k ≡ Some x
         → one.want x ≡ Some place → slice_get w.parts (k * width + place.0) ≡ Some p → stepped_on r l (Some p) ≡ step.Moved → IsMove w t
-    unless_waits l k x place p at now here want there moved =
-        elim (cases_Bool (one.waits p x)) [
-          | inl waits ↦ absurd (let e : step.NotYet ≡ step.Moved = rw (waits_now l k x p now here ∙ waits) at moved in cc)
-          | inr goes ↦ record { l = l; at = at; node = k; now = now; x = x; here = here; place = place; want = want; p = p; there = there; goes = goes }
-        ]
+    unless_waits l k x place p at now here want there moved = grind (arith)
 
     at_part : (l : Beside L) (k : ℕ) (x : L) (place : PartNo) (o : Option P) → slice_get w.locals t ≡ Some l → node_now l ≡ Some k → slice_get l.here k ≡ Some x
         → one.want x ≡ Some place → slice_get w.parts (k * width + place.0) ≡ o → stepped_on r l o ≡ step.Moved → IsMove w t
@@ -104,9 +96,4 @@ module _ {P L : Type 0} (one : Rules P L) (answers : L → List Decided) (width 
 
 -- Parts of different nodes have different numbers.
 pub times_less : (j k n : ℕ) → j < k → j * n + n ≤ k * n
-times_less j zero n low = absurd (omega arith)
-times_less j (suc k) n low =
-    elim (cases_eq j k) [
-      | inl same ↦ subst (λ (i : ℕ). i * n + n ≤ suc k * n) (sym same) (omega arith)
-      | inr apart ↦ omega (arith, times_less j k n (omega (arith, low, apart)))
-    ]
+times_less j k n low = grind (arith)

@@ -1,8 +1,9 @@
 -- What one act at a node makes of the worlds of all nodes: that of its own node goes on by it, and the others stay.
-use Rattle.std.proofs.Common.{◌≡◌, ℕ, zero, suc, ◌+◌, ◌*◌, ◌<◌, ◌≤◌, ◌⊎◌, List, [], ◌∷◌, length, Option, Some, None, refl, sym, ap, ◌∙◌, subst, arith, inl, inr}
+use Rattle.std.proofs.Common.{◌≡◌, ℕ, ◌+◌, ◌*◌, ◌<◌, List, Some, sym, ap, ◌∙◌, arith, inl, inr}
 use Rattle.std.specs.Prelude.{slice_get, slice_set}
 use Rattle.std.proofs.lemmas.Bool.{cases_eq}
 use Rattle.std.proofs.lemmas.List.{length-set}
+use Rattle.std.proofs.lemmas.Bool.Decides.{nat_tests}
 use Rattle.tc_model.specs.Run.{World, with_pair}
 use Rattle.tc_model.proofs.Lists.{set_here, set_elsewhere}
 use Rattle.node_rules.specs.Beside.{Beside, IsNodeOf}
@@ -13,12 +14,7 @@ apart_below : (j k n a b : ℕ) → j < k → a < n → j * n + a ≡ k * n + b 
 apart_below j k n a b low in_n same = omega (arith, times_less j k n low, same, in_n)
 
 pub numbers_apart : (j k n a b : ℕ) → (j ≡ k → ⊥) → a < n → b < n → j * n + a ≡ k * n + b → ⊥
-numbers_apart j k n a b other in_a in_b same =
-    let order : (j < k) ⊎ (k < j) = grind (arith, other) in
-    elim order [
-      | inl low ↦ apart_below j k n a b low in_a same
-      | inr high ↦ apart_below k j n b a high in_b (sym same)
-    ]
+numbers_apart j k n a b other in_a in_b same = grind (arith, apart_below j k n a b, apart_below k j n b a)
 
 module _ {P L : Type 0} (width k : ℕ) (w : World P (Beside L)) (t i : ℕ) (l left : Beside L) (x new : L) (p q : P) (at : slice_get w.locals t ≡ Some l)
     (here : slice_get l.here k ≡ Some x) (there : slice_get w.parts (k * width + i) ≡ Some p) (low : i < width)
@@ -35,34 +31,15 @@ module _ {P L : Type 0} (width k : ℕ) (w : World P (Beside L)) (t i : ℕ) (l 
   -- the node's own world goes on by the act
   own_parts : (v : World P L) → IsNodeOf width k w v → slice_get v.parts i ≡ Some p → (j : ℕ) → j < width
       → slice_get next.parts (k * width + j) ≡ slice_get (slice_set v.parts i q) j
-  own_parts v of own j in_j =
-      elim (cases_eq i j) [
-        | inl same ↦ subst (λ n. slice_get next.parts (k * width + n) ≡ slice_get (slice_set v.parts i q) n) same
-            (set_here w.parts (k * width + i) q p there ∙ sym (set_here v.parts i q p own))
-        | inr other ↦ set_elsewhere w.parts (k * width + i) (k * width + j) q (λ e. other (omega (arith, e)))
-            ∙ (of.parts j in_j ∙ sym (set_elsewhere v.parts i j q other))
-      ]
+  own_parts v of own j in_j = grind (arith, nat_tests, set_here, set_elsewhere)
 
   own_locals : (v : World P L) → IsNodeOf width k w v → slice_get v.locals t ≡ Some x → (u : ℕ) (m : Beside L) → slice_get next.locals u ≡ Some m
       → slice_get m.here k ≡ slice_get (slice_set v.locals t new) u
-  own_locals v of own u m is =
-      elim (cases_eq t u) [
-        | inl same ↦
-            let e : left ≡ m = same_thread m (ap (slice_get next.locals) same ∙ is) in
-            subst (λ n. slice_get m.here k ≡ slice_get (slice_set v.locals t new) n) same
-            (ap (λ (y : Beside L). slice_get y.here k) (sym e) ∙ (new_here ∙ sym (set_here v.locals t new x own)))
-        | inr other ↦ of.locals u m (sym (set_elsewhere w.locals t u left other) ∙ is) ∙ sym (set_elsewhere v.locals t u new other)
-      ]
+  own_locals v of own u m is = grind (arith, nat_tests, same_thread, new_here, set_here, set_elsewhere)
 
   pub own_world : (v : World P L) → IsNodeOf width k w v → slice_get v.parts i ≡ Some p → slice_get v.locals t ≡ Some x
       → IsNodeOf width k next (with_pair v i t (q, new))
-  own_world v of part local =
-      record {
-        width_is = length-set v.parts i q ∙ of.width_is;
-        parts = own_parts v of part;
-        threads = length-set w.locals t left ∙ (of.threads ∙ sym (length-set v.locals t new));
-        locals = own_locals v of local;
-      }
+  own_world v of part local = grind (arith, length-set, own_parts, own_locals)
 
   -- and the other nodes' stay
   other_locals : (j : ℕ) (v : World P L) → (j ≡ k → ⊥) → IsNodeOf width j w v → (u : ℕ) (m : Beside L) → slice_get next.locals u ≡ Some m
@@ -70,9 +47,7 @@ module _ {P L : Type 0} (width k : ℕ) (w : World P (Beside L)) (t i : ℕ) (l 
   other_locals j v other of u m is =
       elim (cases_eq t u) [
         | inl same ↦
-            let e : left ≡ m = same_thread m (ap (slice_get next.locals) same ∙ is) in
-            let stays : slice_get left.here j ≡ slice_get l.here j = ap (λ (xs : List L). slice_get xs j) left_here ∙ set_elsewhere l.here k j new (λ h. other (sym h)) in
-            subst (λ n. slice_get m.here j ≡ slice_get v.locals n) same (ap (λ (y : Beside L). slice_get y.here j) (sym e) ∙ (stays ∙ of.locals t l at))
+            grind (arith, same_thread m (ap (slice_get next.locals) same ∙ is), set_elsewhere l.here k j new (λ h. other (sym h)), other, of.locals t l)
         | inr apart ↦ of.locals u m (sym (set_elsewhere w.locals t u left apart) ∙ is)
       ]
 

@@ -6,10 +6,8 @@ use Rattle.std.proofs.lemmas.List.Sums.{fold-append}
 use Rattle.tc_model.specs.Run.{pick}
 use Rattle.alloc_rules.proofs.Common.{ClassRow, Fits, Input, IsOrder, IsReady, IsValid, Rules, append_snoc, first_shards, front_moves, length-append}
 use Rattle.alloc_rules.proofs.Common.{length-set, shard_at, start}
-use Rattle.alloc_rules.specs.declared.part.Part.{Part}
-use Rattle.no_caches.specs.declared.front.NoPart.{NoPart}
 use Rattle.alloc_rules.specs.FrontLaw.{IsNotOwn}
-use Rattle.no_caches.specs.NoCaches.{no_calls, fits}
+use Rattle.no_caches.specs.NoCaches.{fits}
 use Rattle.no_caches.specs.NoCachesLaw.{no_caches_in_every_order}
 use Rattle.node_rules.specs.OneNode.{Node, empty_node, Ask, OfShard, shard_answer, answer, node_after, replies, node}
 use Rattle.node_rules.specs.Numa.{NodeLocal, NodePart}
@@ -106,12 +104,4 @@ module _ (input : Input) where
         }
 
 pub node_is_its_acts : NodeIsItsActs
-node_is_its_acts =
-    record {
-      acts = λ rows. acts_are_asked (no_calls rows);
-      runs = λ input order of. is_run_of input of.valid order of.moves;
-      alone = λ one two first second of_one of_two alike same.
-          (let both : node two.rows two.asked.config (acts_of two second) ≡ node one.rows one.asked.config (acts_of one first) = grind arith in
-          let of_both = subst (IsRunOf two second) both (is_run_of two of_two.valid second of_two.moves) in
-          (node one.rows one.asked.config (acts_of one first), is_run_of one of_one.valid first of_one.moves, of_both));
-    }
+node_is_its_acts = grind (arith, acts_are_asked, is_run_of)

@@ -1,10 +1,9 @@
 -- The law of memory nodes: all that holds between two picks, that each pick fits, that the earliest call moves, and that scripts end.
-use Rattle.std.proofs.Common.{◌≡◌, ℕ, zero, suc, ◌+◌, ◌*◌, ◌-◌, ◌%◌, ◌<◌, ◌≤◌, ◌⊎◌, Bool, true, false, cond, eqb, List, [], ◌∷◌, ◌++◌, length, map, take, drop, filter, fold, get_or, Option, Some, None, option_and_then, refl, sym, ap, ◌∙◌, subst, arith, inl, inr, All}
-use Rattle.std.specs.Prelude.{slice_get, slice_set, slice_index, option_map, count_by}
+use Rattle.std.proofs.Common.{◌≡◌, ℕ, zero, suc, ◌+◌, ◌*◌, ◌-◌, ◌<◌, ◌≤◌, false, eqb, List, [], ◌∷◌, ◌++◌, length, map, take, drop, filter, get_or, Option, Some, None, option_and_then, refl, sym, ap, ◌∙◌, subst, arith, inl, inr, All}
+use Rattle.std.specs.Prelude.{slice_get, option_map, count_by}
 use Rattle.std.specs.Option.{option_flatten}
 use Rattle.std.specs.List.{range_with_len}
-use Rattle.std.proofs.lemmas.Bool.{cases_eq, ne_eqb, eq-eqb}
-use Rattle.std.proofs.lemmas.List.{append-nil, length-append, length-map, map-append, take_all}
+use Rattle.std.proofs.lemmas.List.{length-append, length-map, map-append, take_all}
 use Rattle.std.proofs.lemmas.List.Elements.{All-nil, filter-append}
 use Rattle.std.proofs.lemmas.List.FromFn.{length-range_with_len}
 use Rattle.std.proofs.lemmas.List.Sums.{fold-append}
@@ -12,26 +11,24 @@ use Rattle.std.proofs.lemmas.Option.{slice_get-get_or, slice_get-map, slice_get_
 use Rattle.tc_units.specs.Classes.{length_of}
 use Rattle.tc_model.specs.declared.machine.PartNo.{PartNo}
 use Rattle.tc_model.specs.declared.machine.TheConstants.{MOST_PICKS}
-use Rattle.tc_model.specs.declared.calls.Planned.{Planned}
 use Rattle.tc_model.specs.declared.calls.Call.{Call}
-use Rattle.tc_model.specs.declared.calls.Call.TheVariants.{Malloc, Free, Release, Drain, Resize}
 use Rattle.tc_units.specs.declared.spans.ClassRow.{ClassRow}
-use Rattle.std.proofs.lemmas.Nat.{mod_below}
 use Rattle.holdings.proofs.Sums.{of_all}
 use Rattle.tc_model.specs.declared.answers.CallLine.{CallLine}
 use Rattle.tc_model.specs.declared.steps.Stepped.TheVariants as step
 use Rattle.tc_model.specs.Blocks.{IsBlockRun}
-use Rattle.tc_model.specs.Calls.{picks_of, answers_at, AreBelow, AreRising}
+use Rattle.tc_model.specs.Calls.{picks_of, answers_at, AreBelow}
 use Rattle.tc_model.specs.Input.{Asked, Input, ThreadCall, script_of}
 use Rattle.std.proofs.Math.Seq.{drop-append_seam}
 use Rattle.std.proofs.lemmas.List.Sums.{count_by-le-length}
+use Rattle.std.proofs.lemmas.Bool.Decides.{nat_tests}
 use Rattle.node_rules.proofs.LowAnswers.{low_last}
 use Rattle.tc_model.specs.Replays.{HaveEnded, done_by, done_in}
 use Rattle.tc_model.specs.Run.{Rules, World, start, pick, run, with_pair}
 use Rattle.tc_model.specs.Serial.{AreThreads, NeverWaits, Rises, Ends, next_turn}
-use Rattle.tc_model.specs.Sound.{IsOrder, IsReady, IsSound, FitsThere}
-use Rattle.tc_model.specs.Steps.{stepped, AllMove}
-use Rattle.tc_model.proofs.MovingFacts.{IsKeptWith, Move, move_of, run_keeps_with}
+use Rattle.tc_model.specs.Sound.{IsOrder, IsSound, FitsThere}
+use Rattle.tc_model.specs.Steps.{stepped}
+use Rattle.tc_model.proofs.MovingFacts.{IsKeptWith, move_of, run_keeps_with}
 use Rattle.tc_model.proofs.RisesBy.{rises_by, turns_none}
 use Rattle.tc_model.proofs.SerialSteps.{turn_from, turn_here}
 use Rattle.call_steps.specs.Local.{Decided, told}
@@ -41,20 +38,20 @@ use Rattle.alloc_rules.specs.Fits.{Fits}
 use Rattle.alloc_rules.specs.Inputs.{IsValidInput, is_common, not_taken}
 use Rattle.alloc_rules.specs.Law as allocator
 use Rattle.alloc_rules.specs.Machine.{after, turns, place_of, waits}
-use Rattle.alloc_rules.specs.Told.{TellsFirst, TellsScript, TellsScripts, calls_in, lines_by}
+use Rattle.alloc_rules.specs.Told.{TellsFirst, TellsScripts, calls_in}
 use Rattle.alloc_rules.proofs.Reached.{there_is}
 use Rattle.alloc_rules.proofs.SerialLaws.{thread_below}
 use Rattle.call_steps.specs.declared.step.Step.{Step}
 use Rattle.no_caches.specs.declared.front.NoRow.{NoRow}
 use Rattle.no_caches.specs.NoCaches.{no_caches, about_none, Holds, fits}
-use Rattle.node_rules.specs.Joined.{NodeLine, IsAbout, told_line, lines_at}
-use Rattle.node_rules.specs.Nodes.{maker, node_of, acts_at, asked_at, input_at, route_of}
+use Rattle.node_rules.specs.Joined.{NodeLine, IsAbout, lines_at}
+use Rattle.node_rules.specs.Nodes.{node_of, acts_at, asked_at, input_at, route_of}
 use Rattle.node_rules.specs.Beside.{Beside, local_now, node_now, part_at, want_by, after_at, after_by}
 use Rattle.node_rules.specs.Numa.{NodeLocal, NodePart, width_of, rules_at, numa_rules, numa_calls, first_parts, first_thread}
-use Rattle.node_rules.specs.NumaLaw.{NodesAreLawful, AreLawful, HoldsAfter, FitsNow, FitsThread, IsLow, IsOneAct, order_at, world_at, under_now}
+use Rattle.node_rules.specs.NumaLaw.{NodesAreLawful, HoldsAfter, FitsNow, FitsThread, IsLow, IsOneAct, order_at, world_at, under_now}
 use Rattle.node_rules.proofs.Going.{IsAt, IsRun, goes_on, law}
 use Rattle.node_rules.proofs.JoinedRun.{block_runs_join}
-use Rattle.node_rules.proofs.Moving.{IsMove, does_move, moves}
+use Rattle.node_rules.proofs.Moving.{does_move, moves}
 use Rattle.alloc_rules.proofs.CommonCalls.{valid_common}
 use Rattle.node_rules.specs.OneNode.{node}
 use Rattle.node_rules.specs.NodeActs.{acts_of, IsRunOf}
@@ -66,11 +63,7 @@ use Rattle.node_rules.proofs.Turns.{IsTurn, turn_is, thread_of, own_at, own_coun
 
 -- a call acts at a node that is there
 acts_low : (nodes : ℕ) (input : Input) (t : ℕ) (call : Call) → 0 < nodes → acts_at nodes input.asked t call < nodes
-acts_low nodes input t (Malloc label size) some = mod_below (t % input.asked.config.cpus) nodes some
-acts_low nodes input t (Free label) some = mod_below (maker label.0 input.asked.calls % input.asked.config.cpus) nodes some
-acts_low nodes input t (Release pages) some = mod_below (t % input.asked.config.cpus) nodes some
-acts_low nodes input t (Drain cpu) some = mod_below (t % input.asked.config.cpus) nodes some
-acts_low nodes input t (Resize cpu class cap) some = mod_below (t % input.asked.config.cpus) nodes some
+acts_low nodes input t call some = grind (arith)
 
 none_by : (rows : List ClassRow) (x : NodeLocal) (s : Step NoRow) → x.step ≡ s → place_of (no_caches rows) about_none x ≡ None → s ≡ does.Ended
 none_by rows x s is none = grind arith
@@ -128,24 +121,20 @@ module _ (nodes : ℕ) (input : Input) (valid : IsValidInput input) (taken : not
   none_below t (Some l) at = subst (λ (m : Beside NodeLocal). AreBelow (λ (d : Decided). d.act) 0 m.answers) (is_number (first_thread nodes input) threads t l at).1 tt
 
   started : Run []
-  started =
-      record {
-        all_move = tt;
-        at_nodes = λ k low. record { moves = record { moves = tt; few = omega arith }; of = node_starts nodes input k low };
-        count = length-map (range_with_len 0 threads) (first_thread nodes input) ∙ length-range_with_len 0 threads;
-        threads = thread_starts nodes input;
-        of_picks = λ t. none_below t (slice_get first t) refl;
-        rising = λ t l at. subst (λ (m : Beside NodeLocal). AreRising (λ (d : Decided). d.act) 0 m.answers) (is_number (first_thread nodes input) threads t l at).1 tt;
-        tells = λ t. none_told t (slice_get first t) refl;
-        lines = [];
-        told = refl;
-        told_at = λ k low. refl;
-        at_home = All-nil (λ (x : NodeLine). x.node ≡ acts_at nodes input.asked x.line.thread.0 x.line.call);
-        owned = record {
-          there = All-nil (λ (x : NodeLine). x.node < nodes);
-          own = All-nil (λ (x : NodeLine). (label : ℕ) → IsAbout label x → x.node ≡ owner nodes input valid label);
-        };
-      }
+  started = grind (
+    arith,
+    moves,
+    node_starts nodes input,
+    length-map (range_with_len 0 threads) (first_thread nodes input),
+    length-range_with_len 0 threads,
+    thread_starts nodes input,
+    none_below,
+    is_number (first_thread nodes input) threads,
+    none_told,
+    All-nil (λ (x : NodeLine). x.node ≡ acts_at nodes input.asked x.line.thread.0 x.line.call),
+    All-nil (λ (x : NodeLine). x.node < nodes),
+    All-nil (λ (x : NodeLine). (label : ℕ) → IsAbout label x → x.node ≡ owner nodes input valid label),
+  )
 
   pub each_run : (order : List ℕ) → IsOrder numa order → Run order
   each_run order of =
@@ -174,10 +163,7 @@ module _ (nodes : ℕ) (input : Input) (valid : IsValidInput input) (taken : not
 
   want_place : (l : Beside NodeLocal) (part : PartNo) (k : ℕ) (x : NodeLocal) (o : Option PartNo) → node_now l ≡ Some k → slice_get l.here k ≡ Some x → one.want x ≡ o
       → option_map (part_at one answers width huge k) o ≡ Some part → IsWant l part
-  want_place l part k x None now here want is = absurd (cc)
-  want_place l part k x (Some place) now here want is =
-      let same : part_at one answers width huge k place ≡ part = cc in
-      record { node = k; now = now; x = x; here = here; place = place; want = want; is = ap (λ (n : PartNo). n.0) (sym same) }
+  want_place l part k x o now here want is = grind (arith)
 
   want_here : (l : Beside NodeLocal) (part : PartNo) (k : ℕ) (o : Option NodeLocal) → node_now l ≡ Some k → slice_get l.here k ≡ o
       → option_and_then (λ x. option_map (part_at one answers width huge k) (one.want x)) o ≡ Some part → IsWant l part
@@ -302,9 +288,7 @@ module _ (nodes : ℕ) (input : Input) (valid : IsValidInput input) (taken : not
     kept = filter (λ (c : ThreadCall). eqb (node_of nodes input.asked c) k) before
 
     kept_is : (u : ℕ) → picks_of u (map thread_of kept) ≡ count_by (λ j. eqb j k) (take (picks_of u (map thread_of before)) (route_of nodes input.asked u))
-    kept_is u =
-        own_kept (node_of nodes input.asked) u k before (turn.c ∷ turn.behind)
-        ∙ ap (λ (r : List ℕ). count_by (λ j. eqb j k) (take (picks_of u (map thread_of before)) r)) (sym (route u))
+    kept_is u = grind (arith, own_kept (node_of nodes input.asked) u k before (turn.c ∷ turn.behind), route u)
 
     done_here : (u : ℕ) (l : Beside NodeLocal) → slice_get w.locals u ≡ Some l
         → done_in (rules_at nodes input k) v u ≡ count_by (λ j. eqb j k) (take l.ended (route_of nodes input.asked u))
@@ -315,10 +299,7 @@ module _ (nodes : ℕ) (input : Input) (valid : IsValidInput input) (taken : not
         ap (done_by (rules_at nodes input k)) local ∙ (s.ended k x.0 x.1 ∙ ap (λ (r : List ℕ). count_by (λ j. eqb j k) (take l.ended r)) s.route)
 
     kept_done : (u : ℕ) (o : Option (Beside NodeLocal)) → slice_get w.locals u ≡ o → picks_of u (map thread_of kept) ≤ done_in (rules_at nodes input k) v u
-    kept_done u None at =
-        let none : done_in numa w u ≡ 0 = ap (done_by numa) at in
-        let few : picks_of u (map thread_of before) ≡ 0 = omega (arith, none, turn.ended u) in
-        omega (arith, kept_is u, ap (λ n. count_by (λ j. eqb j k) (take n (route_of nodes input.asked u))) few)
+    kept_done u None at = grind (arith, kept_is u)
     kept_done u (Some l) at =
         omega (arith, kept_is u, done_here u l at, count_less k (picks_of u (map thread_of before)) l.ended (route_of nodes input.asked u) (omega (arith, turn.ended u, ap (done_by numa) at)))
 
@@ -327,19 +308,10 @@ module _ (nodes : ℕ) (input : Input) (valid : IsValidInput input) (taken : not
 
     turns_are : turns (asked_at nodes input.asked k)
         ≡ map thread_of kept ++ t ∷ map thread_of (filter (λ (c : ThreadCall). eqb (node_of nodes input.asked c) k) turn.behind)
-    turns_are =
-        let At : ThreadCall → Bool = λ c. eqb (node_of nodes input.asked c) k in
-        let here : filter At (turn.c ∷ turn.behind) ≡ turn.c ∷ filter At turn.behind = rw (eq-eqb k k refl) refl in
-        ap (λ (cs : List ThreadCall). map thread_of (filter At cs)) (sym turn.is)
-        ∙ (ap (map thread_of) (filter-append At before (turn.c ∷ turn.behind) ∙ ap (λ (cs : List ThreadCall). kept ++ cs) here)
-        ∙ (map-append thread_of kept (turn.c ∷ filter At turn.behind) ∙ ap (λ u. map thread_of kept ++ u ∷ map thread_of (filter At turn.behind)) turn.thread))
+    turns_are = grind (arith, nat_tests, filter-append, map-append)
 
     node_next : next_turn (done_in (rules_at nodes input k) v) [] (turns (asked_at nodes input.asked k)) ≡ Some t
-    node_next =
-        let done : ℕ → ℕ = done_in (rules_at nodes input k) v in
-        let later : List ℕ = map thread_of (filter (λ (c : ThreadCall). eqb (node_of nodes input.asked c) k) turn.behind) in
-        ap (next_turn done []) turns_are
-        ∙ (turn_from done [] (map thread_of kept) (t ∷ later) (λ u. kept_done u (slice_get w.locals u) refl) ∙ turn_here done (map thread_of kept) later t own_done)
+    node_next = grind (arith, turns_are, turn_from, kept_done, turn_here, own_done)
 
     -- so it moves
     pub turn_moves : stepped numa w t ≡ step.Moved
@@ -381,38 +353,25 @@ module _ (nodes : ℕ) (input : Input) (valid : IsValidInput input) (taken : not
       ap (want_by one answers width huge l) past
 
   script_length : (t : ℕ) → length (calls_in input.asked t) ≡ length (route_of nodes input.asked t)
-  script_length t =
-      let mine : List ThreadCall = filter (λ (c : ThreadCall). eqb c.thread.0 t) input.asked.calls in
-      length-map (script_of t input.asked.calls) (λ (p : Planned). p.call) ∙ (length-map mine (λ (c : ThreadCall). c.planned) ∙ sym (length-map mine (node_of nodes input.asked)))
+  script_length t = grind (arith, length-map)
 
   past_calls : (t n : ℕ) → call_at (script_of t input.asked.calls) n ≡ None → length (calls_in input.asked t) ≤ n
-  past_calls t n none =
-      let gone = past_end (script_of t input.asked.calls) n (map_none (λ (p : Planned). p.call) (slice_get (script_of t input.asked.calls) n) none) in
-      omega (arith, gone, length-map (script_of t input.asked.calls) (λ (p : Planned). p.call))
+  past_calls t n none = grind (arith, past_end, map_none, length-map)
 
   -- a thread's call acts at a node that is there
   node_low : (order : List ℕ) (h : Run order) (t : ℕ) (l : Beside NodeLocal) → slice_get (run numa order).locals t ≡ Some l → (k : ℕ) → node_now l ≡ Some k → k < nodes
   node_low order h t l at k now =
-      let mine : List ThreadCall = filter (λ (c : ThreadCall). eqb c.thread.0 t) input.asked.calls in
-      let there : slice_get (map (node_of nodes input.asked) mine) l.ended ≡ Some k = ap (λ (r : List ℕ). slice_get r l.ended) (sym (h.threads t l at).thread.route) ∙ now in
-      let found = map_some (node_of nodes input.asked) (slice_get mine l.ended) k (sym (slice_get-map (node_of nodes input.asked) mine l.ended) ∙ there) in
-      subst (λ n. n < nodes) found.2 (acts_low nodes input found.0.thread.0 found.0.planned.call some)
+      grind (arith, h.threads t l, map_some (node_of nodes input.asked), slice_get-map (node_of nodes input.asked), acts_low nodes input)
 
   -- what is told of a thread
   told_first : (order : List ℕ) (h : Run order) (t : ℕ) (l : Beside NodeLocal) → slice_get (run numa order).locals t ≡ Some l
       → TellsFirst input.asked t (l.ended + under_now (local_now l)) (numa_calls (run numa order).locals order)
-  told_first order h t l at =
-      let s = h.threads t l at in
-      let lines : lines_by t (numa_calls (run numa order).locals order) ≡ map (told t) l.answers =
-      h.tells t ∙ ap (λ o. map (told t) (answers_at (λ (m : Beside NodeLocal). m.answers) o)) at in
-      ap (map (λ (c : CallLine). c.call)) lines ∙ (told_calls t l.answers ∙ (s.calls ∙ ap (λ n. take n (calls_in input.asked t)) s.thread.decided))
+  told_first order h t l at = grind (arith, h.threads t l, h.tells t, told_calls t l.answers)
 
   -- where a thread wants nothing, its script has ended
   over : (order : List ℕ) (h : Run order) (of : IsOrder numa order) (t : ℕ) (l : Beside NodeLocal) → slice_get (run numa order).locals t ≡ Some l
       → (o : Option ℕ) → node_now l ≡ o → want_by one answers width huge l o ≡ None → length (calls_in input.asked t) ≤ l.ended
-  over order h of t l at None now none =
-      let s = (h.threads t l at).thread in
-      omega (arith, past_end l.route l.ended now, ap length s.route, script_length t)
+  over order h of t l at None now none = grind (arith, h.threads t l, past_end l.route l.ended now, script_length t)
   over order h of t l at (Some k) now none =
       let s = (h.threads t l at).thread in
       let low : k < nodes = node_low order h t l at k now in

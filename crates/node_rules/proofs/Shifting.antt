@@ -5,7 +5,6 @@ use Rattle.std.specs.List.{list_any}
 use Rattle.std.proofs.lemmas.Bool.Decides.{nat_tests}
 use Rattle.std.proofs.lemmas.List.Sums.{sum_by-cons}
 use Rattle.tc_model.specs.declared.answers.Answer.{Answer}
-use Rattle.tc_model.specs.declared.answers.Answer.TheVariants.{Block, Freed}
 use Rattle.tc_model.specs.Blocks.{Extent, with_block, without_block, blocks_with, meets}
 use Rattle.node_rules.specs.Joined.{shifted}
 
@@ -23,9 +22,7 @@ without_shift n a (b ∷ bs) = grind (arith, nat_tests, without_shift n a bs)
 -- what an answer makes of them
 pub blocks_shift : (n : ℕ) (bs : List Extent) (answer : Answer)
     → map (shift n) (blocks_with bs answer) ≡ blocks_with (map (shift n) bs) (shifted n answer)
-blocks_shift n bs (Block addr len) = with_shift n (record { addr = addr.0; len = len }) bs
-blocks_shift n bs (Freed addr) = without_shift n addr.0 bs
-blocks_shift n bs answer = refl
+blocks_shift n bs answer = grind (arith, with_shift, without_shift)
 
 pub bytes_shift : (n : ℕ) (bs : List Extent) → sum_by (λ b. b.len) (map (shift n) bs) ≡ sum_by (λ b. b.len) bs
 bytes_shift n [] = refl

@@ -1,6 +1,6 @@
 -- Sets of blocks side by side, each within its own range of addresses: what one more and one less make of them all.
 use Rattle.std.proofs.Common.{◌≡◌, ◌≢◌, ℕ, zero, suc, ◌+◌, ◌<◌, ◌≤◌, Bool, false, not, filter, List, [], ◌∷◌, ◌++◌}
-use Rattle.std.proofs.Common.{Some, None, refl, sym, ◌∙◌, subst, inl, inr, arith}
+use Rattle.std.proofs.Common.{Some, None, refl, sym, subst, inl, inr, arith}
 use Rattle.std.specs.Prelude.{◌==◌, find, All, flat_map, sum_by}
 use Rattle.std.specs.List.{list_any, range_with_len}
 use Rattle.std.proofs.lemmas.Bool.{cases_eq, cases_order}
@@ -54,9 +54,7 @@ any_joined p f each a (suc n) = rw (list_any-append p (f a) (joined f (a + 1) n)
 pub sum_joined : (m : List Extent → ℕ) (f : ℕ → List Extent) (g : ℕ → ℕ) → m [] ≡ 0 → ((bs cs : List Extent) → m (bs ++ cs) ≡ m bs + m cs)
     → ((j : ℕ) → m (f j) ≡ g j) → (a n : ℕ) → m (joined f a n) ≡ sum_by g (range_with_len a n)
 sum_joined m f g none adds each a zero = none
-sum_joined m f g none adds each a (suc n) =
-    let rest = sum_joined m f g none adds each (a + 1) n in
-    omega (arith, adds (f a) (joined f (a + 1) n), each a, sum_by-cons g a (range_with_len (a + 1) n))
+sum_joined m f g none adds each a (suc n) = grind (arith, sum_joined m f g none adds each (a + 1) n, sum_by-cons)
 
 -- A block goes into the first of two lists where it begins before the second, and into the second where it begins behind the first.
 abbrev Before : Extent → Extent → Type 0
@@ -72,9 +70,7 @@ with_first x (b ∷ bs) cs behind = grind (arith, nat_tests, with_first x bs cs 
 
 with_later : (x : Extent) (bs cs : List Extent) → All (Before x) bs → with_block x (bs ++ cs) ≡ bs ++ with_block x cs
 with_later x [] cs before = refl
-with_later x (b ∷ bs) cs before =
-    let next = All-head (Before x) b bs before in
-    grind (arith, nat_tests, with_later x bs cs (All-tail (Before x) b bs before))
+with_later x (b ∷ bs) cs before = grind (arith, with_later x bs cs (All-tail (Before x) b bs before), All-head, All-tail)
 
 -- Nothing is taken away from a list, or found in it, where no block begins at the address.
 abbrev Away : ℕ → Extent → Type 0
@@ -82,15 +78,11 @@ Away a b = b.addr ≢ a
 
 without_absent : (a : ℕ) (bs : List Extent) → All (Away a) bs → without_block a bs ≡ bs
 without_absent a [] away = refl
-without_absent a (b ∷ bs) away =
-    let next = All-head (Away a) b bs away in
-    grind (arith, nat_tests, without_absent a bs (All-tail (Away a) b bs away))
+without_absent a (b ∷ bs) away = grind (arith, without_absent a bs (All-tail (Away a) b bs away), All-head, All-tail)
 
 find_absent : (a : ℕ) (bs : List Extent) → All (Away a) bs → find (λ b. b.addr == a) bs ≡ None
 find_absent a [] away = refl
-find_absent a (b ∷ bs) away =
-    let next = All-head (Away a) b bs away in
-    grind (arith, nat_tests, find_absent a bs (All-tail (Away a) b bs away))
+find_absent a (b ∷ bs) away = grind (arith, find_absent a bs (All-tail (Away a) b bs away), All-head, All-tail)
 
 -- what holds at one number and at all others
 pub at_each : (P : ℕ → Type 0) (k : ℕ) → P k → ((j : ℕ) → j ≢ k → P j) → (j : ℕ) → P j
@@ -106,24 +98,10 @@ module _ (start : ℕ → ℕ) (rises : (j k : ℕ) → j < k → start (j + 1) 
     behind j more = All-weaker (IsWithin start j) (Behind x) (λ b h. omega (arith, here.some, here.to, h.from, rises k j more)) (f j) (inside j)
 
     away : (j : ℕ) → j ≢ k → All (Away x.addr) (f j)
-    away j other = All-weaker (IsWithin start j) (Away x.addr) one (f j) (inside j)
-      where
-        one : (b : Extent) → IsWithin start j b → Away x.addr b
-        one b h same = elim (cases_order j k) [
-          | inl e ↦ other e
-          | inr (inl less) ↦ omega (arith, h.some, h.to, here.from, rises j k less, same)
-          | inr (inr more) ↦ omega (arith, here.some, here.to, h.from, rises k j more, same)
-        ]
+    away j other = grind (arith, All-weaker, cases_order)
 
     unmet : (j : ℕ) → j ≢ k → list_any (meets x) (f j) ≡ false
-    unmet j other = list_any_none (meets x) (f j) (All-weaker (IsWithin start j) (λ (b : Extent). meets x b ≡ false) one (f j) (inside j))
-      where
-        one : (b : Extent) → IsWithin start j b → meets x b ≡ false
-        one b h = elim (cases_order j k) [
-          | inl e ↦ absurd (other e)
-          | inr (inl less) ↦ let up = rises j k less in grind (arith, nat_tests)
-          | inr (inr more) ↦ let up = rises k j more in grind (arith, nat_tests)
-        ]
+    unmet j other = grind (arith, list_any_none, All-weaker, cases_order)
 
     -- no block of theirs meets it where none of its own number does, and what is found there is found among all
     pub unmet_by_all : list_any (meets x) (f k) ≡ false → (n : ℕ) → list_any (meets x) (joined f 0 n) ≡ false
@@ -134,12 +112,7 @@ module _ (start : ℕ → ℕ) (rises : (j k : ℕ) → j < k → start (j + 1) 
     find_joined b found a zero from to = absurd (omega arith)
     find_joined b found a (suc n) from to =
         let parts = find-append (λ (c : Extent). c.addr == x.addr) (f a) (joined f (a + 1) n) in
-        elim (cases_eq a k) [
-          | inl e ↦ (let mine = subst (λ j. find (λ c. c.addr == x.addr) (f j) ≡ Some b) (sym e) found in rw (parts, mine) refl)
-          | inr other ↦
-              let none = find_absent x.addr (f a) (away a other) in
-              rw (parts, none) (find_joined b found (a + 1) n (omega (arith, from, other)) (omega (arith, to)))
-        ]
+        grind (arith, nat_tests, find_joined b found (a + 1) n, find_absent x.addr (f a), away a)
 
     -- one block more, and one less
     module _ (g : ℕ → List Extent) (same : (j : ℕ) → j ≢ k → g j ≡ f j) where
@@ -147,21 +120,12 @@ module _ (start : ℕ → ℕ) (rises : (j k : ℕ) → j < k → start (j + 1) 
       with_joined new a zero from to = absurd (omega arith)
       with_joined new a (suc n) from to =
           elim (cases_eq a k) [
-            | inl e ↦
-                let mine : g a ≡ with_block x (f a) = subst (λ j. g j ≡ with_block x (f j)) (sym e) new in
-                let others = same_joined f g (a + 1) n (λ j past. same j (λ is. omega (arith, past, e, is))) in
-                let after = all_joined (Behind x) f (a + 1) n (λ j past. behind j (omega (arith, past, e))) in
-                with_first x (f a) (joined f (a + 1) n) after ∙ rw (mine, others) refl
-            | inr other ↦
-                let more = with_joined new (a + 1) n (omega (arith, from, other)) (omega (arith, to)) in
-                let mine = same a other in
-                with_later x (f a) (joined f (a + 1) n) (before a (omega (arith, from, other))) ∙ rw (mine, more) refl
+            | inl e ↦ grind (arith, same_joined f g (a + 1) n, all_joined (Behind x) f (a + 1) n, behind, with_first x (f a) (joined f (a + 1) n))
+            | inr other ↦ grind (arith, with_joined new (a + 1) n, with_later x (f a) (joined f (a + 1) n), before a)
           ]
 
       without_joined : g k ≡ without_block x.addr (f k) → (n : ℕ) → without_block x.addr (joined f 0 n) ≡ joined g 0 n
-      without_joined new n =
-          let others : (j : ℕ) → j ≢ k → without_block x.addr (f j) ≡ g j = λ j other. without_absent x.addr (f j) (away j other) ∙ sym (same j other) in
-          filter_joined (λ (b : Extent). not (b.addr == x.addr)) f g (at_each (λ j. without_block x.addr (f j) ≡ g j) k (sym new) others) 0 n
+      without_joined new n = grind (arith, without_absent, away, filter_joined, at_each)
 
   -- what an answer within one range makes of them
   pub within_with : (k : ℕ) (bs : List Extent) (answer : Answer) → FitsIn start k answer → All (IsWithin start k) bs

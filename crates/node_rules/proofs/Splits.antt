@@ -1,8 +1,9 @@
 -- Lists, and what a test keeps of them.
-use Rattle.std.proofs.Common.{◌≡◌, ℕ, zero, suc, ◌+◌, ◌<◌, ◌≤◌, Bool, true, false, cond, eqb, List, [], ◌∷◌, ◌++◌, length, map, take, filter, Option, Some, None, refl, sym, ap, ◌∙◌, subst, arith, inl, inr}
-use Rattle.std.specs.Prelude.{slice_get, sum_by, count_by}
-use Rattle.std.proofs.lemmas.Bool.{cases_Bool, false≢true}
+use Rattle.std.proofs.Common.{◌≡◌, ℕ, ◌+◌, ◌≤◌, Bool, true, false, List, [], ◌∷◌, ◌++◌, filter, refl, sym, ap, ◌∙◌, arith}
+use Rattle.std.specs.Prelude.{sum_by}
+use Rattle.std.proofs.lemmas.Bool.{cases_Bool}
 use Rattle.std.proofs.lemmas.List.Sums.{sum_by-cons}
+use Rattle.std.proofs.lemmas.Bool.Decides.{nat_tests}
 
 -- An element of what a test keeps, in the list itself: what the test keeps before it is what stands before it there.
 pub record IsSplit {X : Type 0} (p : X → Bool) (xs earlier : List X) (x : X) : Type 0 where
@@ -31,21 +32,12 @@ split_on {X} p y ys earlier x fails s =
 pub filter_split : {X : Type 0} (p : X → Bool) (xs earlier : List X) (x : X) (later : List X) → earlier ++ x ∷ later ≡ filter p xs → IsSplit p xs earlier x
 filter_split p [] [] x later is = absurd (cc)
 filter_split p [] (e ∷ es) x later is = absurd (cc)
-filter_split p (y ∷ ys) earlier x later is =
-    elim (cases_Bool (p y)) [
-      | inl passes ↦ split_here p y ys earlier x later passes (λ es ls. filter_split p ys es x ls) (rw passes at is)
-      | inr fails ↦ split_on p y ys earlier x fails (filter_split p ys earlier x later (rw fails at is))
-    ]
+filter_split p (y ∷ ys) earlier x later is = grind (arith, nat_tests, filter_split p ys, filter_split p ys earlier x later, split_here, split_on)
 
 -- a sum over what a test keeps is fails greater
 pub kept_less : {X : Type 0} (f : X → ℕ) (p : X → Bool) (xs : List X) → sum_by f (filter p xs) ≤ sum_by f xs
 kept_less f p [] = omega arith
-kept_less f p (x ∷ xs) =
-    let rest = kept_less f p xs in
-    elim (cases_Bool (p x)) [
-      | inl passes ↦ rw passes (omega (arith, rest, sum_by-cons f x xs, sum_by-cons f x (filter p xs)))
-      | inr fails ↦ rw fails (omega (arith, rest, sum_by-cons f x xs))
-    ]
+kept_less f p (x ∷ xs) = grind (arith, nat_tests, kept_less f p xs, sum_by-cons)
 
 -- two tests commute
 pub filter_both : {X : Type 0} (p q : X → Bool) (xs : List X) → filter p (filter q xs) ≡ filter q (filter p xs)

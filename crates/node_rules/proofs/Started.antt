@@ -1,5 +1,5 @@
 -- The start: what memory nodes side by side begin with is what each begins with.
-use Rattle.std.proofs.Common.{◌≡◌, ℕ, zero, suc, ◌+◌, ◌*◌, ◌<◌, ◌≤◌, ◌⊎◌, Bool, true, false, cond, eqb, List, [], ◌∷◌, ◌++◌, length, map, take, fold, Option, Some, None, refl, sym, ap, ◌∙◌, subst, arith, inl, inr}
+use Rattle.std.proofs.Common.{◌≡◌, ℕ, zero, suc, ◌+◌, ◌*◌, ◌<◌, List, [], ◌∷◌, ◌++◌, length, map, fold, Option, Some, None, refl, sym, ap, ◌∙◌, arith}
 use Rattle.std.specs.Prelude.{slice_get, option_map}
 use Rattle.std.specs.Option.{option_flatten}
 use Rattle.std.specs.List.{range_with_len}
@@ -7,18 +7,17 @@ use Rattle.std.proofs.lemmas.List.{length-append, length-map}
 use Rattle.std.proofs.lemmas.List.FromFn.{length-range_with_len}
 use Rattle.std.proofs.lemmas.Option.{slice_get-map, slice_get_within}
 use Rattle.tc_units.specs.declared.spans.ClassRow.{ClassRow}
-use Rattle.tc_model.specs.Input.{Input, Asked, script_of}
+use Rattle.tc_model.specs.Input.{Input, script_of}
 use Rattle.tc_model.specs.Run.{start}
 use Rattle.call_steps.specs.Rows.{under}
-use Rattle.alloc_rules.specs.Machine.{first_parts, first_shards, first_of}
-use Rattle.alloc_rules.specs.declared.part.Part.TheVariants.{Shard as OfClass, Heap, Map, Names}
+use Rattle.alloc_rules.specs.Machine.{first_shards, first_of}
 use Rattle.alloc_rules.proofs.First.{number_at}
 use Rattle.alloc_rules.proofs.ScriptFacts.{first_under}
 use Rattle.no_caches.specs.NoCaches.{no_caches, about_none, no_seat}
 use Rattle.no_caches.specs.NoCachesLaw.{no_caches_law}
-use Rattle.node_rules.specs.Nodes.{asked_at, route_of}
-use Rattle.node_rules.specs.Beside.{Beside, local_now, node_now, IsNodeOf}
-use Rattle.node_rules.specs.Numa.{NodeLocal, NodePart, width_of, rules_at, numa_rules, first_thread}
+use Rattle.node_rules.specs.Nodes.{asked_at}
+use Rattle.node_rules.specs.Beside.{Beside, IsNodeOf}
+use Rattle.node_rules.specs.Numa.{NodeLocal, width_of, rules_at, numa_rules, first_thread}
 use Rattle.node_rules.specs.NumaLaw.{under_now}
 use Rattle.node_rules.proofs.ThreadGoes.{IsSeen}
 
@@ -30,9 +29,7 @@ get_front (x ∷ xs) ys (suc i) low = get_front xs ys i (omega arith)
 
 get_behind : {X : Type 0} (xs ys : List X) (i : ℕ) → slice_get (xs ++ ys) (length xs + i) ≡ slice_get ys i
 get_behind [] ys i = ap (slice_get ys) (omega arith)
-get_behind (x ∷ xs) ys i =
-    let n : length (x ∷ xs) + i ≡ suc (length xs + i) = omega arith in
-    ap (slice_get (x ∷ (xs ++ ys))) n ∙ get_behind xs ys i
+get_behind (x ∷ xs) ys i = grind (arith, get_behind xs ys i)
 
 module _ {X : Type 0} (f : ℕ → List X) (width : ℕ) (wide : (k : ℕ) → length (f k) ≡ width) where
   abbrev pub joined : List X → List ℕ → List X
@@ -44,33 +41,18 @@ module _ {X : Type 0} (f : ℕ → List X) (width : ℕ) (wide : (k : ℕ) → l
 
   joined_at : (n a d i : ℕ) (all : List X) → d < n → i < width → slice_get (joined all (range_with_len a n)) (length all + (d * width + i)) ≡ slice_get (f (a + d)) i
   joined_at zero a d i all low in_k = absurd (omega arith)
-  joined_at (suc n) a zero i all low in_k =
-      let both = length-append all (f a) in
-      let place : length all + (0 * width + i) ≡ length all + i = omega arith in
-      let same : a ≡ a + 0 = omega arith in
-      ap (slice_get (joined (all ++ f a) (range_with_len (a + 1) n))) place
-      ∙ (stays_front (all ++ f a) (range_with_len (a + 1) n) (length all + i) (omega (arith, both, wide a, in_k))
-      ∙ (get_behind all (f a) i ∙ ap (λ k. slice_get (f k) i) same))
-  joined_at (suc n) a (suc d) i all low in_k =
-      let both = length-append all (f a) in
-      let place : length all + (suc d * width + i) ≡ length (all ++ f a) + (d * width + i) = omega (arith, both, wide a) in
-      let same : a + 1 + d ≡ a + suc d = omega arith in
-      ap (slice_get (joined (all ++ f a) (range_with_len (a + 1) n))) place ∙ (joined_at n (a + 1) d i (all ++ f a) (omega (arith, low)) in_k ∙ ap (λ k. slice_get (f k) i) same)
+  joined_at (suc n) a zero i all low in_k = grind (arith, length-append, stays_front, get_behind)
+  joined_at (suc n) a (suc d) i all low in_k = grind (arith, joined_at n (a + 1) d i (all ++ f a), length-append)
 
   pub joined_from : (n k i : ℕ) → k < n → i < width → slice_get (joined [] (range_with_len 0 n)) (k * width + i) ≡ slice_get (f k) i
-  joined_from n k i low in_k =
-      let place : k * width + i ≡ length {A = X} [] + (k * width + i) = omega arith in
-      let same : 0 + k ≡ k = omega arith in
-      ap (slice_get (joined [] (range_with_len 0 n))) place ∙ (joined_at n 0 k i [] low in_k ∙ ap (λ j. slice_get (f j) i) same)
+  joined_from n k i low in_k = grind (arith, joined_at n 0 k i)
 
 -- what a function has at a number below the end
 pub at_number : {X : Type 0} (f : ℕ → X) (n k : ℕ) → k < n → slice_get (map f (range_with_len 0 n)) k ≡ Some (f k)
 at_number f n k low = slice_get-map f (range_with_len 0 n) k ∙ ap (option_map f) (number_at n k low)
 
 pub is_number : {X : Type 0} (f : ℕ → X) (n k : ℕ) (x : X) → slice_get (map f (range_with_len 0 n)) k ≡ Some x → (k < n) × (f k ≡ x)
-is_number f n k x at =
-    let low : k < n = omega (arith, slice_get_within (map f (range_with_len 0 n)) k x at, length-map (range_with_len 0 n) f, length-range_with_len 0 n) in
-    (low, let e : Some (f k) ≡ Some x = sym (at_number f n k low) ∙ at in cc)
+is_number f n k x at = grind (arith, slice_get_within, length-map, length-range_with_len, at_number)
 
 shards_count : (room k : ℕ) (rows : List ClassRow) → length (first_shards room k rows) ≡ length rows
 shards_count room k [] = refl
@@ -79,12 +61,7 @@ shards_count room k (row ∷ rows) = ap (λ n. suc n) (shards_count room (k + 1)
 module _ (nodes : ℕ) (input : Input) where
   -- each node has so many parts
   pub node_width : (k : ℕ) → length (rules_at nodes input k).parts ≡ width_of input
-  node_width k =
-      let shards = first_shards input.asked.config.transfer 0 input.rows in
-      let asked : Asked = asked_at nodes input.asked k in
-      let rest : List NodePart = Heap (first_parts (no_caches input.rows) about_none asked).heap ∷ Map (first_parts (no_caches input.rows) about_none asked).map
-      ∷ Names (first_parts (no_caches input.rows) about_none asked).names ∷ [] in
-      omega (arith, length-append (map {B = NodePart} OfClass shards) rest, length-map {B = NodePart} shards OfClass, shards_count input.asked.config.transfer 0 input.rows)
+  node_width k = grind (arith, length-append, length-map, shards_count)
 
   first_local_of : (k t : ℕ) → NodeLocal
   first_local_of k t = first_of (no_caches input.rows) about_none (asked_at nodes input.asked k) t
@@ -126,19 +103,4 @@ module _ (nodes : ℕ) (input : Input) where
 
   -- and so is each thread's
   pub thread_starts : (t : ℕ) (l : Beside NodeLocal) → slice_get (start (numa_rules nodes input)).locals t ≡ Some l → IsSeen nodes input [] t l
-  thread_starts t l at =
-      let n : ℕ = input.asked.config.threads in
-      let found = is_number (first_thread nodes input) n t l at in
-      subst (IsSeen nodes input [] t) found.1 (record {
-        thread = record {
-          here = length-map (range_with_len 0 nodes) (λ j. first_of (no_caches input.rows) about_none (asked_at nodes input.asked j) t) ∙ length-range_with_len 0 nodes;
-          route = refl;
-          acts = refl;
-          decided = omega (arith, quiet_now t (node_now (first_thread nodes input t)));
-          ended = λ k x here. sym (ap (λ (y : NodeLocal). y.ended) (first_here t k x here)) ∙ first_ended k t;
-          within = omega arith;
-          slow = omega arith;
-        };
-        quiet = λ k x here away. sym (ap (λ (y : NodeLocal). under about_none y.step) (first_here t k x here)) ∙ first_quiet k t;
-        calls = refl;
-      })
+  thread_starts t l at = grind (arith, is_number, length-map, length-range_with_len, quiet_now, first_here, first_ended, first_quiet)

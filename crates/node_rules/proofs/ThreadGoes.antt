@@ -1,14 +1,12 @@
 -- A thread behind one act at the node of its call: it goes on within the call, or comes to the next one, at whichever node.
-use Rattle.std.proofs.Common.{◌≡◌, ℕ, zero, suc, ◌+◌, ◌-◌, ◌<◌, ◌≤◌, ◌⊎◌, Bool, true, false, cond, eqb, List, [], ◌∷◌, ◌++◌, length, map, take, drop, filter, Option, Some, None, refl, sym, ap, ◌∙◌, subst, arith, inl, inr}
-use Rattle.std.specs.Prelude.{slice_get, slice_set, count_by, option_map}
+use Rattle.std.proofs.Common.{◌≡◌, ℕ, ◌+◌, ◌-◌, ◌<◌, ◌≤◌, eqb, List, [], ◌∷◌, ◌++◌, length, map, take, Option, Some, None, refl, sym, ap, ◌∙◌, arith}
+use Rattle.std.specs.Prelude.{slice_get, count_by, option_map}
 use Rattle.std.specs.Option.{option_flatten}
 use Rattle.std.proofs.Math.Seq.{drop-append_seam}
-use Rattle.std.proofs.lemmas.Bool.{cases_eq, eq-eqb, ne_eqb}
 use Rattle.std.proofs.lemmas.List.{append-nil, length-append, length-map, length-set, map-append}
 use Rattle.std.proofs.lemmas.Option.{slice_get-map, slice_get_within}
-use Rattle.tc_model.specs.declared.calls.Call.{Call}
+use Rattle.std.proofs.lemmas.Bool.Decides.{nat_tests}
 use Rattle.tc_model.specs.declared.calls.Planned.{Planned}
-use Rattle.tc_model.specs.Calls.{picks_of}
 use Rattle.tc_model.specs.Input.{Input, script_of}
 use Rattle.tc_model.proofs.CallSteps.{picks-push_same}
 use Rattle.tc_model.proofs.Lists.{set_here, set_elsewhere}
@@ -18,7 +16,7 @@ use Rattle.call_steps.specs.Kept.{call_at}
 use Rattle.alloc_rules.specs.Law.{IsAmong, IsPick}
 use Rattle.alloc_rules.specs.Told.{calls_in}
 use Rattle.no_caches.specs.NoCaches.{no_caches, about_none}
-use Rattle.node_rules.specs.Nodes.{asked_at, route_of}
+use Rattle.node_rules.specs.Nodes.{asked_at}
 use Rattle.node_rules.specs.Beside.{Beside, node_now, local_now, decided_at, with_act}
 use Rattle.node_rules.specs.Numa.{NodeLocal, width_of, rules_at}
 use Rattle.node_rules.specs.NumaLaw.{under_now, IsThread}
@@ -64,9 +62,7 @@ module _ (nodes : ℕ) (input : Input) where
     added = map (decided_at huge k l.acts) pick.new
 
     pub answers_are : left.answers ≡ l.answers ++ added
-    answers_are =
-        let rest : drop (length x.answers) new.answers ≡ pick.new = ap (drop (length x.answers)) pick.answers ∙ drop-append_seam x.answers pick.new in
-        ap (λ ds. l.answers ++ map (decided_at huge k l.acts) ds) rest
+    answers_are = grind (arith, drop-append_seam)
 
     more : length left.answers ≡ length l.answers + length pick.new
     more = omega (arith, ap length answers_are, length-append l.answers added, length-map pick.new (decided_at huge k l.acts))
@@ -95,48 +91,20 @@ module _ (nodes : ℕ) (input : Input) where
 
     -- where it decides a call, none was under way that was decided
     nothing_under : (d : Decided) → pick.new ≡ d ∷ [] → under about_none x.step ≡ 0
-    nothing_under d one =
-        let more_one : length pick.new ≡ 1 = ap length one in
-        elim pick.ended [
-          | inl same ↦ omega (arith, under_few new, was.count, is.count, node_more, more_one, same)
-          | inr next ↦ omega (arith, was.count, is.count, node_more, more_one, next.0, next.1)
-        ]
+    nothing_under d one = grind (arith, under_few, node_more)
 
     -- what it decides is the call under way
     decides : (d : Decided) → pick.new ≡ d ∷ [] → call_at (script t) (length l.answers) ≡ Some d.call
-    decides d one =
-        let none = nothing_under d one in
-        let place : length x.answers ≡ count_by (λ j. eqb j k) (take l.ended (route_of nodes input.asked t)) =
-        omega (arith, was.count, none, h.thread.ended k x here ∙ ap (λ (r : List ℕ). count_by (λ j. eqb j k) (take l.ended r)) h.thread.route) in
-        let last : slice_get new.answers (length x.answers) ≡ Some d =
-        ap (λ (ds : List Decided). slice_get ds (length x.answers)) (pick.answers ∙ ap (λ ds. x.answers ++ ds) one) ∙ at_end x.answers d in
-        let there = is.each (length x.answers) d last in
-        let at : slice_get (route_of nodes input.asked t) l.ended ≡ Some k = ap (λ (r : List ℕ). slice_get r l.ended) (sym h.thread.route) ∙ now in
-        let mine : length l.answers ≡ l.ended = omega (arith, had, none) in
-        ap (call_at (script t)) mine ∙ (sym (call_at_node nodes input t l.ended k at)
-        ∙ (ap (call_at (script_of t (asked_at nodes input.asked k).calls)) (sym place) ∙ there))
+    decides d one = grind (arith, nothing_under d one, at_end x.answers d, had, call_at_node nodes input t l.ended k)
 
     -- where it is in the trace
     pub decided_there : (d : Decided) → pick.new ≡ d ∷ [] → IsCallAt nodes input t k d.call
-    decided_there d one =
-        let mine : length l.answers ≡ l.ended = omega (arith, had, nothing_under d one) in
-        let at : slice_get (route_of nodes input.asked t) l.ended ≡ Some k = ap (λ (r : List ℕ). slice_get r l.ended) (sym h.thread.route) ∙ now in
-        call_there nodes input t l.ended k d.call at (ap (call_at (script t)) (sym mine) ∙ decides d one)
+    decided_there d one = grind (arith, had, nothing_under, call_there, decides)
 
     calls_by : (ds : List Decided) → pick.new ≡ ds → length ds ≤ 1
         → map (λ (d : Decided). d.call) left.answers ≡ take (length left.answers) (calls_in input.asked t)
-    calls_by [] none few =
-        let same : left.answers ≡ l.answers = answers_are ∙ (ap (λ ds. l.answers ++ map (decided_at huge k l.acts) ds) none ∙ append-nil l.answers) in
-        ap (map (λ (d : Decided). d.call)) same ∙ (h.calls ∙ ap (λ n. take n (calls_in input.asked t)) (sym (ap length same)))
-    calls_by (d ∷ []) one few =
-        let all : left.answers ≡ l.answers ++ decided_at huge k l.acts d ∷ [] = answers_are ∙ ap (λ ds. l.answers ++ map (decided_at huge k l.acts) ds) one in
-        let at : slice_get (calls_in input.asked t) (length l.answers) ≡ Some d.call =
-        slice_get-map (λ (p : Planned). p.call) (script t) (length l.answers) ∙ decides d one in
-        let count : length left.answers ≡ length l.answers + 1 = omega (arith, more, ap length one) in
-        ap (map (λ (c : Decided). c.call)) all
-        ∙ (map-append (λ (c : Decided). c.call) l.answers (decided_at huge k l.acts d ∷ [])
-        ∙ (ap (λ cs. cs ++ d.call ∷ []) h.calls
-        ∙ (sym (take_next (calls_in input.asked t) (length l.answers) d.call at) ∙ ap (λ n. take n (calls_in input.asked t)) (sym count))))
+    calls_by [] none few = grind (arith, answers_are, append-nil)
+    calls_by (d ∷ []) one few = grind (arith, answers_are, slice_get-map, decides, more, map-append, take_next)
     calls_by (d ∷ e ∷ more_ds) one few = absurd (omega (arith, few))
 
     -- The call goes on.
@@ -148,16 +116,7 @@ module _ (nodes : ℕ) (input : Input) where
       still_now = ap (slice_get l.route) still ∙ now
 
       goes_ended : (j : ℕ) (y : NodeLocal) → slice_get left.here j ≡ Some y → y.ended ≡ count_by (λ i. eqb i j) (take left.ended l.route)
-      goes_ended j y at =
-          let to : (n : ℕ) → n ≡ count_by (λ i. eqb i j) (take l.ended l.route) → n ≡ count_by (λ i. eqb i j) (take left.ended l.route) =
-          λ n e. e ∙ ap (λ m. count_by (λ i. eqb i j) (take m l.route)) (sym still) in
-          elim (cases_eq j k) [
-            | inl e ↦
-                let is_new : new ≡ y = let s : Some new ≡ Some y = sym set_k ∙ (ap (slice_get left.here) (sym e) ∙ at) in cc in
-                let counted : x.ended ≡ count_by (λ i. eqb i j) (take l.ended l.route) = h.thread.ended k x here ∙ ap (λ n. count_by (λ i. eqb i n) (take l.ended l.route)) (sym e) in
-                to y.ended (ap (λ (z : NodeLocal). z.ended) (sym is_new) ∙ (same ∙ counted))
-            | inr other ↦ to y.ended (h.thread.ended j y (sym (set_j j other) ∙ at))
-          ]
+      goes_ended j y at = grind (arith, nat_tests, still, set_k, set_j)
 
       goes_on : IsSeen (order ++ t ∷ []) t left
       goes_on =
@@ -166,16 +125,12 @@ module _ (nodes : ℕ) (input : Input) where
               here = length-set l.here k new ∙ h.thread.here;
               route = h.thread.route;
               acts = omega (arith, h.thread.acts, picks-push_same t order);
-              decided =
-                  let there : local_now left ≡ Some new = now_is left (Some k) still_now ∙ set_k in
-                  omega (arith, more, node_more, had, was.count, is.count, same, still, ap under_now there);
+              decided = grind (arith, now_is left (Some k) still_now, still_now, set_k, more, node_more, had, still);
               ended = goes_ended;
               within = omega (arith, h.thread.within, still);
               slow = omega (arith, h.thread.slow, still);
             };
-            quiet = λ j y at away.
-                (let other : j ≡ k → ⊥ = λ e. away (still_now ∙ ap (λ n. Some n) (sym e)) in
-                h.quiet j y (sym (set_j j other) ∙ at) (not_now j other));
+            quiet = grind (arith, still_now, set_j, not_now);
             calls = calls_by pick.new refl pick.few;
           }
 
@@ -185,13 +140,7 @@ module _ (nodes : ℕ) (input : Input) where
       one_more = omega (arith, next.0)
 
       all_quiet : (j : ℕ) (y : NodeLocal) → slice_get left.here j ≡ Some y → under about_none y.step ≡ 0
-      all_quiet j y at =
-          elim (cases_eq j k) [
-            | inl e ↦
-                let is_new : new ≡ y = let s : Some new ≡ Some y = sym set_k ∙ (ap (slice_get left.here) (sym e) ∙ at) in cc in
-                ap (λ (z : NodeLocal). under about_none z.step) (sym is_new) ∙ next.1
-            | inr other ↦ h.quiet j y (sym (set_j j other) ∙ at) (not_now j other)
-          ]
+      all_quiet j y at = grind (arith, nat_tests, set_k, set_j, not_now)
 
       quiet_at : (o : Option NodeLocal) → ((y : NodeLocal) → o ≡ Some y → under about_none y.step ≡ 0) → under_now o ≡ 0
       quiet_at None each = refl
@@ -208,38 +157,15 @@ module _ (nodes : ℕ) (input : Input) where
       taken = ap (λ n. take n l.route) one_more ∙ take_next l.route l.ended k now
 
       ends_ended : (j : ℕ) (y : NodeLocal) → slice_get left.here j ≡ Some y → y.ended ≡ count_by (λ i. eqb i j) (take left.ended l.route)
-      ends_ended j y at =
-          let push = ap (count_by (λ i. eqb i j)) taken ∙ count_push j k (take l.ended l.route) in
-          elim (cases_eq j k) [
-            | inl e ↦
-                let is_new : new ≡ y = let s : Some new ≡ Some y = sym set_k ∙ (ap (slice_get left.here) (sym e) ∙ at) in cc in
-                let counted : x.ended ≡ count_by (λ i. eqb i j) (take l.ended l.route) = h.thread.ended k x here ∙ ap (λ n. count_by (λ i. eqb i n) (take l.ended l.route)) (sym e) in
-                let bit : cond {A = ℕ} (eqb k j) 1 0 ≡ 1 = rw (eq-eqb k j (sym e)) refl in
-                omega (arith, ap (λ (z : NodeLocal). z.ended) is_new, next.0, counted, push, bit)
-            | inr other ↦
-                let bit : cond {A = ℕ} (eqb k j) 1 0 ≡ 0 = rw (ne_eqb k j (λ e. other (sym e))) refl in
-                omega (arith, h.thread.ended j y (sym (set_j j other) ∙ at), push, bit)
-          ]
+      ends_ended j y at = grind (arith, nat_tests, taken, count_push j k (take l.ended l.route), set_k, set_j j)
 
       comes_on : IsSeen (order ++ t ∷ []) t left
       comes_on =
           record {
-            thread = record {
-              here = length-set l.here k new ∙ h.thread.here;
-              route = h.thread.route;
-              acts = omega (arith, h.thread.acts, picks-push_same t order);
-              decided = omega (arith, more, node_more, had, was.count, is.count, next.0, next.1, one_more, none_under);
-              ended = ends_ended;
-              within = omega (arith, in_route, one_more);
-              slow = omega (arith, h.thread.slow, one_more);
-            };
+            thread = grind (arith, length-set l.here k new, picks-push_same t order, more, node_more, had, one_more, none_under, ends_ended, in_route);
             quiet = λ j y at away. all_quiet j y at;
             calls = calls_by pick.new refl pick.few;
           }
 
     pub thread_goes : IsSeen (order ++ t ∷ []) t left
-    thread_goes =
-        elim pick.ended [
-          | inl same ↦ goes_on same
-          | inr next ↦ comes_on next
-        ]
+    thread_goes = grind (arith, goes_on, comes_on)

@@ -1,13 +1,14 @@
 -- Turns of memory nodes: the earliest call that hasn't ended is, at its node, the earliest one of those that act there.
-use Rattle.std.proofs.Common.{◌≡◌, ℕ, zero, suc, ◌+◌, ◌<◌, ◌≤◌, ◌⊎◌, Bool, true, false, cond, eqb, ltb, List, [], ◌∷◌, ◌++◌, length, map, take, filter, Option, Some, None, refl, sym, ap, ◌∙◌, subst, arith, inl, inr}
+use Rattle.std.proofs.Common.{◌≡◌, ℕ, zero, suc, ◌+◌, ◌<◌, ◌≤◌, Bool, eqb, ltb, List, [], ◌∷◌, ◌++◌, length, map, take, filter, Some, refl, sym, ◌∙◌, subst, arith, inl, inr}
 use Rattle.std.specs.Prelude.{slice_get, count_by}
-use Rattle.std.proofs.lemmas.Bool.{cases_Bool, cases_eq, eq-eqb, ltb-true, ltb-false}
-use Rattle.std.proofs.lemmas.List.{append-nil, map-append}
+use Rattle.std.proofs.lemmas.Bool.{cases_Bool, cases_eq, eq-eqb, ltb-true}
+use Rattle.std.proofs.lemmas.List.{map-append}
 use Rattle.std.proofs.Math.Seq.{append_snoc}
+use Rattle.std.proofs.lemmas.Bool.Decides.{nat_tests}
 use Rattle.tc_model.specs.Calls.{picks_of}
 use Rattle.tc_model.specs.Input.{ThreadCall}
 use Rattle.tc_model.specs.Serial.{next_turn}
-use Rattle.tc_model.proofs.CallSteps.{picks-cons, picks-append, picks-push_same, picks-push_other}
+use Rattle.tc_model.proofs.CallSteps.{picks-cons, picks-push_same, picks-push_other}
 use Rattle.node_rules.proofs.Counted.{count_cons}
 
 abbrev pub thread_of : ThreadCall → ℕ
@@ -40,18 +41,7 @@ turn_of done calls earlier (c ∷ cs) t is ended next =
           ]) in
           let go : next_turn done (map thread_of earlier ++ u ∷ []) (map thread_of cs) ≡ Some t = rw low at next in
           turn_of done calls (earlier ++ c ∷ []) cs t (append_snoc earlier c cs ∙ is) more (subst (λ us. next_turn done us (map thread_of cs) ≡ Some t) (sym pushed) go)
-      | inr high ↦
-          let here : Some u ≡ Some t = rw high at next in
-          let same : u ≡ t = cc in
-          record {
-            before = earlier;
-            c = c;
-            behind = cs;
-            is = is;
-            thread = same;
-            ended = ended;
-            next = subst (λ v. done v ≤ picks_of v (map thread_of earlier)) same (ltb-false (picks_of u (map thread_of earlier)) (done u) high);
-          }
+      | inr high ↦ grind (arith, nat_tests, done u)
     ]
 
 pub turn_is : (done : ℕ → ℕ) (calls : List ThreadCall) (t : ℕ) → next_turn done [] (map thread_of calls) ≡ Some t → IsTurn done calls t
@@ -60,13 +50,7 @@ turn_is done calls t next = turn_of done calls [] calls t refl (λ u. omega arit
 -- how many of these calls a thread makes
 pub own_count : (t : ℕ) (calls : List ThreadCall) → length (filter (λ (c : ThreadCall). eqb c.thread.0 t) calls) ≡ picks_of t (map thread_of calls)
 own_count t [] = refl
-own_count t (c ∷ cs) =
-    let rest = own_count t cs in
-    let more = picks-cons t c.thread.0 (map thread_of cs) in
-    elim (cases_Bool (eqb c.thread.0 t)) [
-      | inl mine ↦ rw mine (omega (arith, rest, rw mine at more))
-      | inr other ↦ rw other (omega (arith, rest, rw other at more))
-    ]
+own_count t (c ∷ cs) = grind (arith, nat_tests, own_count t cs, picks-cons t c.thread.0 (map thread_of cs))
 
 -- By a number of each call:
 module _ (f : ThreadCall → ℕ) where
@@ -77,18 +61,7 @@ module _ (f : ThreadCall → ℕ) where
   pub own_at : (t : ℕ) (before : List ThreadCall) (c : ThreadCall) (behind : List ThreadCall) → c.thread.0 ≡ t
       → slice_get (map f (filter (Mine t) (before ++ c ∷ behind))) (picks_of t (map thread_of before)) ≡ Some (f c)
   own_at t [] c behind mine = rw (eq-eqb c.thread.0 t mine) refl
-  own_at t (b ∷ bs) c behind mine =
-      let rest = own_at t bs c behind mine in
-      let more = picks-cons t b.thread.0 (map thread_of bs) in
-      let Is : ℕ → Type 0 = λ n. slice_get (map f (filter (Mine t) (b ∷ (bs ++ c ∷ behind)))) n ≡ Some (f c) in
-      elim (cases_Bool (eqb b.thread.0 t)) [
-        | inl own ↦
-            let n : picks_of t (map thread_of (b ∷ bs)) ≡ suc (picks_of t (map thread_of bs)) = omega (arith, rw own at more) in
-            subst Is (sym n) (rw own rest)
-        | inr other ↦
-            let n : picks_of t (map thread_of (b ∷ bs)) ≡ picks_of t (map thread_of bs) = omega (arith, rw other at more) in
-            subst Is (sym n) (rw other rest)
-      ]
+  own_at t (b ∷ bs) c behind mine = grind (arith, nat_tests, own_at t bs c behind mine, picks-cons t b.thread.0 (map thread_of bs))
 
   -- of the calls of number k among the first ones a thread makes as many as its own first ones have of that number
   pub own_kept : (t k : ℕ) (before behind : List ThreadCall)
@@ -109,12 +82,7 @@ module _ (f : ThreadCall → ℕ) where
               | inl here ↦ rw (own, here) (omega (arith, rest, rw own at kept, rw here at first))
               | inr away ↦ rw (own, away) (omega (arith, rest, rw away at first))
             ])
-        | inr other ↦
-            let n : picks_of t (map thread_of (b ∷ bs)) ≡ picks_of t (map thread_of bs) = omega (arith, rw other at more) in
-            subst Is (sym n) (elim (cases_Bool (eqb (f b) k)) [
-              | inl here ↦ rw (other, here) (omega (arith, rest, rw other at kept))
-              | inr away ↦ rw (other, away) rest
-            ])
+        | inr other ↦ grind (arith, nat_tests)
       ]
 
 -- more of a list has no fewer of a number
