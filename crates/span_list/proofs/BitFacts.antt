@@ -11,7 +11,8 @@ use Rattle.std.proofs.lemmas.List.FromFn.{length-map-range_with_len, get_or-map-
 use Rattle.std.proofs.lemmas.List.Sums.{position_or_len_is}
 use Rattle.std.proofs.lemmas.Nat.{mod_below}
 use Rattle.std.proofs.lemmas.Nat.Bits.{bit_at-zero, bit_at_ones, bit_at-trailing_ones, bit_at_clear_same, bit_at_clear_other, bit_at_set_same, bit_at_set_other}
-use Rattle.std.proofs.lemmas.Bool.{cases_eq, cases_lt, lt-ltb, le-ltb}
+use Rattle.std.proofs.lemmas.Bool.{cases_eq, lt-ltb}
+use Rattle.std.proofs.lemmas.Bool.Decides.{nat_tests}
 use Rattle.span_list.specs.Bits.{is_clear, clear_bits}
 
 pub length-clear_bits : (words : List ℕ) (n : ℕ) → length (clear_bits words n) ≡ n
@@ -21,11 +22,7 @@ pub get_or-clear_bits : (words : List ℕ) (n i : ℕ) (d : Bool) → i < n → 
 get_or-clear_bits words n i d less = get_or-map-range_with_len (is_clear words) 0 n i i d less (omega arith)
 
 zero_word : (m i : ℕ) → get_or (replicate {A = ℕ} m 0) i 0 ≡ 0
-zero_word m i =
-    elim (cases_lt i m) [
-      | inl less ↦ get_or-replicate m i 0 0 less
-      | inr past ↦ get_or_past (replicate m 0) i 0 (omega (arith, length-replicate {A = ℕ} m 0))
-    ]
+zero_word m i = grind (arith, nat_tests, get_or-replicate, get_or_past, length-replicate)
 
 -- words of 0 have no bit set
 pub clear_bits-zeros : (m n : ℕ) → clear_bits (replicate m 0) n ≡ replicate n true
@@ -40,14 +37,7 @@ word_of i n m less within = omega arith
 other_bit : (words : List ℕ) (i k v : ℕ) → i / 64 < length words → k ≢ i
     → ((j : ℕ) → j < 64 → j ≢ i % 64 → bit_at v j ≡ bit_at (get_or words (i / 64) 0) j)
     → bit_at (get_or (set words (i / 64) v) (k / 64) 0) (k % 64) ≡ bit_at (get_or words (k / 64) 0) (k % 64)
-other_bit words i k v within differ others =
-    elim (cases_eq (k / 64) (i / 64)) [
-      | inl same ↦
-          (let away : k % 64 ≢ i % 64 = λ e. differ (omega arith) in
-          let F : ℕ → Type 0 = λ w. bit_at (get_or (set words (i / 64) v) w 0) (k % 64) ≡ bit_at (get_or words w 0) (k % 64) in
-          subst F (sym same) (ap (λ w. bit_at w (k % 64)) (get_or-set_same words (i / 64) v 0 within) ∙ others (k % 64) (mod_below k 64 (omega arith)) away))
-      | inr other ↦ ap (λ w. bit_at w (k % 64)) (get_or-set_other words (i / 64) (k / 64) v 0 other)
-    ]
+other_bit words i k v within differ others = grind (arith, nat_tests, get_or-set_same, mod_below, get_or-set_other)
 
 -- a word written so that one bit of it changes is one truth value written
 pub clear_bits-set : (words : List ℕ) (n i v : ℕ) (b : Bool) → n ≤ 64 * length words → i < n → (bit_at v (i % 64) == 0) ≡ b
@@ -91,15 +81,11 @@ position-clear_bits words n i less here before =
 pub position-clear_bits_none : (words : List ℕ) (n : ℕ) → ((k : ℕ) → k < n → is_clear words k ≡ false) → position (λ b. b) (clear_bits words n) ≡ None
 position-clear_bits_none words n none =
     let size : length (clear_bits words n) ≡ n = length-clear_bits words n in
-    let at : position_or_len (λ (b : Bool). b) (clear_bits words n) ≡ length (clear_bits words n) =
-    position_or_len_is (λ b. b) (clear_bits words n) (length (clear_bits words n)) true (omega arith) (λ k below. get_or-clear_bits words n k true (omega arith) ∙ none k (omega arith)) (λ more. absurd (omega arith)) in
-    ap (λ t. cond t (Some (position_or_len (λ (b : Bool). b) (clear_bits words n))) None) (le-ltb (position_or_len (λ (b : Bool). b) (clear_bits words n)) (length (clear_bits words n)) (omega arith))
+    grind (arith, nat_tests, position_or_len_is (λ b. b) (clear_bits words n) (length (clear_bits words n)) true, get_or-clear_bits words n)
 
 -- a word whose bits are all set has none that is clear
 pub is_clear-full : (words : List ℕ) (i : ℕ) → get_or words (i / 64) 0 ≡ 2 ^ 64 - 1 → is_clear words i ≡ false
-is_clear-full words i full =
-    let bit : bit_at (get_or words (i / 64) 0) (i % 64) ≡ 1 = ap (λ w. bit_at w (i % 64)) full ∙ bit_at_ones 64 (i % 64) (mod_below i 64 (omega arith)) in
-    ap (λ b. b == 0) bit
+is_clear-full words i full = grind (arith, bit_at_ones 64 (i % 64), mod_below i 64)
 
 -- behind words whose bits are all set, the first clear bit of the next word is the first of all
 pub record IsFirstClear (words : List ℕ) (i : ℕ) : Type 0 where
@@ -108,25 +94,8 @@ pub record IsFirstClear (words : List ℕ) (i : ℕ) : Type 0 where
 
 at_place : (words : List ℕ) (place t word : ℕ) → word ≡ get_or words place 0 → t < 64 → (f : ℕ → Bool)
     → f (bit_at (get_or words ((64 * place + t) / 64) 0) ((64 * place + t) % 64)) ≡ f (bit_at word t)
-at_place words place t word read less f =
-    let row : (64 * place + t) / 64 ≡ place = omega arith in
-    let column : (64 * place + t) % 64 ≡ t = omega arith in
-    ap (λ j. f (bit_at (get_or words j 0) ((64 * place + t) % 64))) row ∙ ap (λ j. f (bit_at (get_or words place 0) j)) column ∙ ap (λ w. f (bit_at w t)) (sym read)
+at_place words place t word read less f = grind (arith)
 
 pub first_clear : (words : List ℕ) (place word : ℕ) → word ≡ get_or words place 0 → word < 2 ^ 64 → word ≢ 2 ^ 64 - 1
     → ((k : ℕ) → k < place → get_or words k 0 ≡ 2 ^ 64 - 1) → IsFirstClear words (64 * place + trailing_ones w64 word)
-first_clear words place word read fits unfull full =
-    let ones = bit_at-trailing_ones w64 word (omega arith) in
-    let t = trailing_ones w64 word in
-    record {
-      here = at_place words place t word read ones.0 (λ b. b == 0) ∙ ap (λ b. b == 0) ones.1;
-      before = λ k below.
-          elim (cases_lt k (64 * place)) [
-            | inl early ↦ is_clear-full words k (full (k / 64) (omega arith))
-            | inr late ↦
-                (let j = k - 64 * place in
-                let same : 64 * place + j ≡ k = omega arith in
-                let F : ℕ → Type 0 = λ m. is_clear words m ≡ false in
-                subst F same (at_place words place j word read (omega arith) (λ b. b == 0) ∙ ap (λ b. b == 0) (ones.2 j (omega arith))))
-          ];
-    }
+first_clear words place word read fits unfull full = grind (arith, nat_tests, bit_at-trailing_ones w64 word, at_place words place, is_clear-full words, full)

@@ -1,13 +1,13 @@
 -- A span's objects: how many are free, the least of them, and what taking and putting one changes.
 use Rattle.std.proofs.Common.{◌≡◌, ◌≢◌, ℕ, zero, suc, ◌+◌, ◌-◌, ◌*◌, ◌/◌, ◌<◌, ◌≤◌, Bool, true, false, not, List, [], ◌∷◌}
-use Rattle.std.proofs.Common.{length, get_or, set, count_by, position, Some, None, cond, refl, sym, ◌∙◌, ap, subst, inl, inr, add-zero, zero-add, arith}
+use Rattle.std.proofs.Common.{length, get_or, set, count_by, position, Some, None, cond, refl, sym, ◌∙◌, ap, add-zero, zero-add, arith}
 use Rattle.std.specs.List.{position_or_len, slice_get}
 use Rattle.std.proofs.lemmas.List.Sums.{sum_by-cons, sum_by-set, get_or-le-sum_by}
 use Rattle.std.proofs.lemmas.List.Quantifiers.{position-Some}
 use Rattle.std.proofs.lemmas.Option.{none-some, slice_get_within, slice_get-get_or, get_or_from_slice_get}
 use Rattle.std.proofs.lemmas.List.{length-set, get_or-set_same, get_or-set_other}
-use Rattle.std.proofs.lemmas.Bool.{cases_lt, cases_eq, lt-ltb, both_ways}
-use Rattle.std.proofs.lemmas.Nat.{div-mul-add}
+use Rattle.std.proofs.lemmas.Bool.{both_ways}
+use Rattle.std.proofs.lemmas.Bool.Decides.{nat_tests}
 use Rattle.tc_units.specs.declared.units.Addr.{Addr}
 use Rattle.span_list.specs.Span.{SpanState, address, first_byte, free_from, least, with_object, IsTaken}
 
@@ -27,19 +27,11 @@ count_zero (false ∷ xs) past =
     omega (arith, count_zero xs (omega arith), sum_by-cons (λ (b : Bool). cond b 1 0) false xs)
 
 pub count_none : (xs : List Bool) → position (λ b. b) xs ≡ None → count_by (λ b. b) xs ≡ 0
-count_none xs none =
-    elim (cases_lt (position_or_len (λ (b : Bool). b) xs) (length xs)) [
-      | inl less ↦ absurd (none-some (position_or_len (λ (b : Bool). b) xs) (sym none ∙ ap (λ t. cond t (Some (position_or_len (λ (b : Bool). b) xs)) None) (lt-ltb (position_or_len (λ (b : Bool). b) xs) (length xs) less)))
-      | inr past ↦ count_zero xs past
-    ]
+count_none xs none = grind (arith, nat_tests, none-some, count_zero)
 
 -- a free object counts
 pub count_some : (xs : List Bool) (i : ℕ) → position (λ b. b) xs ≡ Some i → 0 < count_by (λ b. b) xs
-count_some xs i at =
-    let first = position-Some (λ (b : Bool). b) xs i true at in
-    let one : cond {A = ℕ} (get_or xs i true) 1 0 ≤ count_by (λ (b : Bool). b) xs = get_or-le-sum_by (λ (b : Bool). cond {A = ℕ} b 1 0) xs i true first.0 in
-    let here : cond {A = ℕ} (get_or xs i true) 1 0 ≡ 1 = ap (λ (b : Bool). cond {A = ℕ} b 1 0) first.1 in
-    omega (arith, one, here)
+count_some xs i at = grind (arith, position-Some (λ (b : Bool). b) xs i true, get_or-le-sum_by (λ (b : Bool). cond {A = ℕ} b 1 0) xs i true)
 
 -- an object that is written: how many are taken
 pub taken-set : (xs : List Bool) (i : ℕ) (b d : Bool) → i < length xs → count_by not (set xs i b) + cond (not (get_or xs i d)) 1 0 ≡ count_by not xs + cond (not b) 1 0
@@ -57,22 +49,12 @@ free_from-cons test addr k false xs = sym (zero-add (count_by test (free_from ad
 pub free_from-set : (test : Addr → Bool) (addr : ℕ → Addr) (k : ℕ) (xs : List Bool) (i : ℕ) (b d : Bool) (a : Addr) → i < length xs → a ≡ addr (k + i)
     → count_by test (free_from addr k (set xs i b)) + weight test (get_or xs i d) a ≡ count_by test (free_from addr k xs) + weight test b a
 free_from-set test addr k [] i b d a less at = absurd (omega arith)
-free_from-set test addr k (x ∷ xs) zero b d a less at =
-    let here : a ≡ addr k = at ∙ ap addr (add-zero k) in
-    let old : weight test x a ≡ weight test x (addr k) = ap (weight test x) here in
-    let new : weight test b a ≡ weight test b (addr k) = ap (weight test b) here in
-    omega (arith, free_from-cons test addr k b xs, free_from-cons test addr k x xs, old, new)
-free_from-set test addr k (x ∷ xs) (suc i) b d a less at =
-    let place : k + suc i ≡ k + 1 + i = omega arith in
-    let rest = free_from-set test addr (k + 1) xs i b d a (omega arith) (at ∙ ap addr place) in
-    omega (arith, rest, free_from-cons test addr k x (set xs i b), free_from-cons test addr k x xs)
+free_from-set test addr k (x ∷ xs) zero b d a less at = grind (arith, add-zero, free_from-cons)
+free_from-set test addr k (x ∷ xs) (suc i) b d a less at = grind (arith, free_from-set test addr (k + 1) xs i b d a, free_from-cons)
 
 -- the index of an object at its address, where the distance and the size are read
 pub index_found : (s : SpanState) (a : Addr) (i first size : ℕ) → 0 < s.size → a ≡ address s i → first ≡ s.span.first.0 * 8192 → size ≡ s.size → (a.0 - first) / size ≡ i
-index_found s a i first size pos at from by =
-    let there : a.0 ≡ s.span.first.0 * 8192 + i * s.size = ap (λ t. t.0) at in
-    let apart : a.0 - first ≡ i * s.size + 0 = omega arith in
-    ap (λ n. (a.0 - first) / n) by ∙ ap (λ n. n / s.size) apart ∙ div-mul-add i s.size 0 pos
+index_found s a i first size pos at from by = grind (arith)
 
 -- a taken object's place, and what stands there
 pub taken_place : (xs : List Bool) (i : ℕ) (d : Bool) → slice_get xs i ≡ Some false → (i < length xs) × (get_or xs i d ≡ false)
@@ -80,25 +62,16 @@ taken_place xs i d at = (slice_get_within xs i false at, get_or_from_slice_get x
 
 -- putting the object of an index back: one fewer is taken, and it is free again
 pub put_counts : (xs : List Bool) (i : ℕ) → slice_get xs i ≡ Some false → count_by not xs ≡ suc (count_by not (set xs i true))
-put_counts xs i at =
-    let there = taken_place xs i true at in
-    let old : cond {A = ℕ} (not (get_or xs i true)) 1 0 ≡ 1 = ap (λ (b : Bool). cond {A = ℕ} (not b) 1 0) there.1 in
-    omega (arith, taken-set xs i true true there.0, old)
+put_counts xs i at = grind (arith, taken_place xs i true, taken-set xs i true true)
 
 pub put_moves : (test : Addr → Bool) (addr : ℕ → Addr) (xs : List Bool) (i : ℕ) (a : Addr) → slice_get xs i ≡ Some false
     → a ≡ addr i → count_by test (free_from addr 0 (set xs i true)) ≡ count_by test (free_from addr 0 xs) + count_by test (a ∷ [])
 put_moves test addr xs i a at same =
-    let there = taken_place xs i true at in
-    let moved = free_from-set test addr 0 xs i true true a there.0 (same ∙ ap addr (sym (zero-add i))) in
-    let old : weight test (get_or xs i true) a ≡ 0 = ap (λ (b : Bool). weight test b a) there.1 in
-    omega (arith, moved, old, sum_by-cons (λ (t : Addr). cond {A = ℕ} (test t) 1 0) a [])
+    grind (arith, taken_place xs i true, free_from-set test addr 0 xs i true true a, zero-add i, sum_by-cons (λ (t : Addr). cond {A = ℕ} (test t) 1 0) a, test)
 
 -- taking the first free object: one more is taken, and it is free no more
 pub take_counts : (xs : List Bool) (i : ℕ) → position (λ b. b) xs ≡ Some i → count_by not (set xs i false) ≡ count_by not xs + 1
-take_counts xs i at =
-    let first = position-Some (λ (b : Bool). b) xs i true at in
-    let old : cond {A = ℕ} (not (get_or xs i true)) 1 0 ≡ 0 = ap (λ (b : Bool). cond {A = ℕ} (not b) 1 0) first.1 in
-    omega (arith, taken-set xs i false true first.0, old)
+take_counts xs i at = grind (arith, position-Some (λ (b : Bool). b) xs i true, taken-set xs i false true)
 
 pub take_moves : (test : Addr → Bool) (addr : ℕ → Addr) (xs : List Bool) (i : ℕ) (a : Addr) → position (λ b. b) xs ≡ Some i
     → a ≡ addr i → count_by test (free_from addr 0 (set xs i false)) + count_by test (a ∷ []) ≡ count_by test (free_from addr 0 xs)
@@ -120,23 +93,11 @@ now_taken xs i less =
 
 -- what a take gave can be put back
 pub IsTaken-given : (s : SpanState) (i : ℕ) → least s ≡ Some i → IsTaken (with_object s i false) (address s i)
-IsTaken-given s i at =
-    let first = position-Some (λ (b : Bool). b) s.free i true at in
-    record { index = i; at = refl; taken = now_taken s.free i first.0 }
+IsTaken-given s i at = grind (arith, position-Some, now_taken)
 
 -- and so can what was taken before it
 pub IsTaken-after_take : (s : SpanState) (i : ℕ) (a : Addr) → i < length s.free → IsTaken s a → IsTaken (with_object s i false) a
-IsTaken-after_take s i a less t =
-    record {
-      index = t.index;
-      at = t.at;
-      taken = elim (cases_eq t.index i) [
-        | inl same ↦
-            (let F : ℕ → Type 0 = λ k. slice_get (set s.free i false) k ≡ Some false in
-            subst F (sym same) (now_taken s.free i less))
-        | inr differ ↦ still_taken s.free i t.index false differ t.taken
-      ];
-    }
+IsTaken-after_take s i a less t = grind (arith, nat_tests, now_taken, still_taken)
 
 -- what a take gave wasn't taken before it
 pub IsTaken-fresh : (s : SpanState) (i : ℕ) → 0 < s.size → least s ≡ Some i → IsTaken s (address s i) → ⊥
@@ -148,9 +109,4 @@ IsTaken-fresh s i some at t =
 
 -- a put leaves the other objects taken
 pub IsTaken-after_put : (s : SpanState) (a b : Addr) (i : ℕ) → a ≡ address s i → IsTaken s b → b ≢ a → IsTaken (with_object s i true) b
-IsTaken-after_put s a b i at t differ =
-    record {
-      index = t.index;
-      at = t.at;
-      taken = still_taken s.free i t.index true (λ same. differ (t.at ∙ ap (address s) same ∙ sym at)) t.taken;
-    }
+IsTaken-after_put s a b i at t differ = grind (arith, still_taken)

@@ -1,4 +1,4 @@
-use Rattle.std.proofs.Common.{◌≡◌, ◌+◌, ◌*◌, ◌/◌, ◌^◌, ◌<◌, ◌≤◌, List, ℕ, length, position, sym, ◌∙◌, ap, subst, get_or, arith, rules}
+use Rattle.std.proofs.Common.{◌≡◌, ◌+◌, ◌*◌, ◌^◌, ◌<◌, List, ℕ, position, sym, ◌∙◌, ap, subst, get_or, arith, rules}
 use Rattle.std.specs.Int.{w64, trailing_ones}
 use Rattle.span_list.proofs.BitFacts.{position-clear_bits, position-clear_bits_none, is_clear-full, IsFirstClear, first_clear}
 use Rattle.span_list.proofs.free_set.FreeSet.first.Goals as goal
@@ -16,15 +16,7 @@ returns-then-index-self c =
 pub returns-else-index-self : goal.returns-else-index-self
 returns-else-index-self c =
     let words : List ℕ = c.self.inside.taken.items in
-    let word : ℕ = get_or c.deref-word-items.result.now c.loop-place.place 0 in
-    let read : word ≡ get_or words c.loop-place.place 0 = ap (λ ws. get_or ws c.loop-place.place 0) c.deref-word-items.ensures.value in
-    let fits : word < 2 ^ 64 = search rules in
-    let first : IsFirstClear words (64 * c.loop-place.place + trailing_ones w64 word) = first_clear words c.loop-place.place word read fits c.if-word.true c.loop-place.invariant in
-    sym (ap (λ xs. position (λ b. b) xs) (sym c.self.view_is) ∙ position-clear_bits_none words c.self.inside.len (λ k below. first.before k (omega (arith, c.trailing_ones.ensures))))
+    grind (arith, first_clear words c.loop-place.place, position-clear_bits_none words c.self.inside.len)
 
 pub returns : goal.returns
-returns c =
-    let words : List ℕ = c.self.inside.taken.items in
-    let enough : c.self.inside.len ≤ 64 * length words = omega (arith, c.self.invariant.0) in
-    let size : length c.deref-word-items.result.now ≡ length words = ap length c.deref-word-items.ensures.value in
-    sym (ap (λ xs. position (λ b. b) xs) (sym c.self.view_is) ∙ position-clear_bits_none words c.self.inside.len (λ k below. is_clear-full words k (c.loop-place.invariant (k / 64) (omega arith))))
+returns c = grind (arith, position-clear_bits_none, is_clear-full)
