@@ -1,7 +1,7 @@
 -- The first key that serves is that of the preferred hugepage.
 use Rattle.std.proofs.lemmas.Bool.Decides.{nat_tests}
-use Rattle.std.proofs.Common.{◌≡◌, ℕ, ◌+◌, ◌<◌, ◌≤◌, false, List, get_or, Option, Some, None, All, refl, sym, ap, ◌∙◌, inl, inr, arith}
-use Rattle.huge_filler.proofs.Common.{cases_Bool, cases_lt, All-contains, at_number-next, by_first, last_is, Key, Serves, IsFirstOf, Measures}
+use Rattle.std.proofs.Common.{◌≡◌, ℕ, ◌+◌, ◌<◌, ◌≤◌, false, List, get_or, Option, Some, None, All, sym, ap, ◌∙◌, arith}
+use Rattle.huge_filler.proofs.Common.{cases_Bool, at_number-next, by_first, last_is, Key, Serves, IsFirstOf, Measures}
 use Rattle.huge_filler.proofs.Common.{measures_at, prefers, IsPreferred, key_of, Lists}
 use Rattle.tc_units.specs.declared.units.Huge.{Huge}
 use Rattle.huge_index.specs.Order.{comes_before}
@@ -22,9 +22,7 @@ module _ (rows : List (Option Measures)) (keys : List Key) (n : ℕ) (lists : Li
   NoneBelow tier = (t : ℕ) → t < tier → All (λ key. ¬ (Serves t n key)) keys
 
   none_before : (tier : ℕ) (key : Key) (h : ℕ) (its : Measures) → NoneBelow tier → IsFirstOf keys tier n key → measures_at rows h ≡ Some its → n ≤ its.longest → comes_before (key_of h (Some its)) key ≡ false
-  none_before tier key h its lower is e long =
-      let held = key_of_it key_of comes_before total rows keys lists h its e in
-      grind (arith, nat_tests, cases_lt)
+  none_before tier key h its lower is e long = grind (arith, nat_tests, key_of_it key_of comes_before total rows keys lists h its e)
 
   pub preferred_is : (tier : ℕ) (huge : Huge) (key : Key) → tier < 3 → NoneBelow tier → key.huge ≡ huge → IsFirstOf keys tier n key → IsPreferred rows n huge
   preferred_is tier huge key few lower number is =
@@ -45,8 +43,4 @@ module _ (rows : List (Option Measures)) (keys : List Key) (n : ℕ) (lists : Li
       }
 
   pub none_has_room : ((h : ℕ) (its : Measures) → measures_at rows h ≡ Some its → its.tier ≤ 2) → NoneBelow 3 → (h : ℕ) (its : Measures) → measures_at rows h ≡ Some its → its.longest < n
-  none_has_room tiers lower h its e =
-      elim (cases_lt its.longest n) [
-        | inl short ↦ short
-        | inr long ↦ absurd (All-contains (λ x. ¬ (Serves its.tier n x)) keys (key_of h (Some its)) (lower its.tier (omega (arith, tiers h its e))) (key_of_it key_of comes_before total rows keys lists h its e) (refl, long))
-      ]
+  none_has_room tiers lower h its e = grind (arith, nat_tests, lower its.tier, tiers h its e, key_of_it key_of comes_before total rows keys lists h its e)

@@ -1,6 +1,6 @@
 -- The list for the order of giving, before and after it is told.
 use Rattle.std.proofs.lemmas.Bool.Decides.{nat_tests}
-use Rattle.std.proofs.Common.{◌≡◌, ℕ, ◌+◌, ◌-◌, ◌*◌, ◌/◌, ◌<◌, ◌≤◌, Bool, true, false, List, ◌∷◌, IsPermutation, Contains, length, get_or, set, replicate, Option, None, sym, subst, ◌∙◌, inl, inr, arith}
+use Rattle.std.proofs.Common.{◌≡◌, ℕ, ◌+◌, ◌-◌, ◌*◌, ◌/◌, ◌<◌, ◌≤◌, Bool, false, List, ◌∷◌, IsPermutation, Contains, length, get_or, set, replicate, Option, None, sym, subst, ◌∙◌, inl, inr, arith}
 use Rattle.huge_filler.proofs.Common.{cases_eq, cases_lt, length-set, get_or-set_same, get_or-set_other, get_or_default, get_or_past, get_or-replicate, length-replicate}
 use Rattle.huge_filler.proofs.Common.{Giver, Measures, measures_at, at_number-place, comes_before, total, giver_of, Lists, IsFollowed}
 use Rattle.std.proofs.lemmas.List.{same_lists}

@@ -1,7 +1,6 @@
 -- The first key of those that give is that of the candidate.
 use Rattle.std.proofs.lemmas.Bool.Decides.{nat_tests}
-use Rattle.std.proofs.Common.{◌≡◌, ℕ, ◌+◌, ◌<◌, Bool, true, false, not, nat_lt, List, [], length, get_or, Option, Some, None, sym, ap, ◌∙◌, inl, inr, arith}
-use Rattle.std.proofs.Common.{eq-eqb}
+use Rattle.std.proofs.Common.{◌≡◌, ℕ, ◌+◌, ◌<◌, Bool, true, false, not, nat_lt, List, [], length, get_or, Option, Some, None, sym, ap, ◌∙◌, arith, eq-eqb}
 use Rattle.huge_filler.proofs.Common.{cases_Bool, cases_lt, ne_eqb, All-contains, at_number-next, by_first, last_is, IsFirst, Giver, Measures}
 use Rattle.huge_filler.proofs.Common.{measures_at, spare_row, IsCandidate, comes_before, giver_of, Lists, total}
 use Rattle.heap_rules.specs.GiveUp.{gives_before}
@@ -36,13 +35,7 @@ module _ (rows : List (Option Measures)) (keys : List Giver) (lists : Lists give
 
   -- where the first has none to give, none has, nor where there is no key
   pub none_spare : (giver : Giver) → IsFirst comes_before keys giver → giver.spent ≡ true → (h : ℕ) (its : Measures) → measures_at rows h ≡ Some its → its.spare ≡ 0
-  none_spare giver is spent h its e =
-      elim (cases_lt 0 its.spare) [
-        | inr none ↦ omega arith
-        | inl some ↦
-            (let late = All-contains (λ x. comes_before x giver ≡ false) keys (giver_of h (Some its)) is.first (key_of_it giver_of comes_before total rows keys lists h its e) in
-            grind (arith, nat_tests, ne_eqb))
-      ]
+  none_spare giver is spent h its e = grind (arith, nat_tests, key_of_it giver_of comes_before total rows keys lists h its e)
 
   pub no_givers : keys ≡ [] → (h : ℕ) (its : Measures) → measures_at rows h ≡ Some its → its.spare ≡ 0
   no_givers none h its e =

@@ -1,7 +1,7 @@
 -- A list that has one key for each hugepage, whatever it measures.
 use Rattle.std.proofs.lemmas.Bool.Decides.{nat_tests}
 use Rattle.std.proofs.Common.{◌≡◌, ℕ, zero, suc, ◌+◌, ◌-◌, ◌<◌, Bool, cond, List, [], ◌∷◌, ◌++◌, length, get_or, set, Option, Some, None, Contains}
-use Rattle.std.proofs.Common.{IsPermutation, ap, subst, ◌∙◌, arith}
+use Rattle.std.proofs.Common.{IsPermutation, ap, ◌∙◌, arith}
 use Rattle.huge_filler.proofs.Common.{cases_lt, get_or_default, get_or_past, sum_by-set, sum_by-append, sum_by-cons, at_number-there, IsOrder, Measures}
 use Rattle.huge_filler.proofs.Common.{measures_at, Lists}
 use Rattle.std.specs.List.{enumerate_from, sum_by}
@@ -50,10 +50,7 @@ module _ {K : Type 0} (key : ℕ → Option Measures → K) where
         )
 
     pub key_of_it : (h : ℕ) (its : Measures) → measures_at rows h ≡ Some its → Contains keys (key h (Some its))
-    key_of_it h its e =
-        let at = stands rows h its e in
-        let number : 1 + (h - 1) ≡ h = omega (arith, at.0) in
-        subst (λ (g : ℕ). Contains keys (key g (Some its))) number (subst (λ (o : Option Measures). Contains keys (key (1 + (h - 1)) o)) at.2 (key_at (h - 1) at.1))
+    key_of_it h its e = grind (arith, stands rows h its e, key_at (h - 1))
 
     -- and each key is that of a place
     pub place_of : (k : K) → Contains keys k → (i : ℕ) × (i < length rows) × (key (1 + i) (get_or rows i None) ≡ k)

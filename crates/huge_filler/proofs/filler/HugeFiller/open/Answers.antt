@@ -1,5 +1,5 @@
-use Rattle.std.proofs.Common.{◌≡◌, ℕ, ◌+◌, replicate, List, Option, None, refl, sym, ap, subst, ◌∙◌, arith}
-use Rattle.huge_filler.proofs.Common.{replicate_more, Measures, key_of, Lists}
+use Rattle.std.proofs.Common.{◌+◌, replicate, None, refl, sym, arith}
+use Rattle.huge_filler.proofs.Common.{replicate_more, key_of}
 use Rattle.huge_filler.proofs.Kept.{listed_next, kept_none}
 use Rattle.huge_filler.proofs.filler.HugeFiller.open.Goals as goal
 
@@ -15,7 +15,4 @@ loop-place-preserved c =
 pub invariant_of-result : goal.invariant_of-result
 invariant_of-result c =
     let rows = c.in_ok-open.field-0.rows in
-    let same : c.loop-place.place ≡ c.args.huge = omega arith in
-    let none : rows ≡ replicate c.args.huge None = c.in_ok-open.ensures in
-    kept_none rows c.args.huge c.loop-place.index.keys c.requires none
-    (subst (λ (r : List (Option Measures)). Lists key_of r c.loop-place.index.keys) (ap (λ (n : ℕ). replicate n None) same ∙ sym none) c.loop-place.invariant.keys)
+    grind (arith, kept_none rows c.args.huge c.loop-place.index.keys c.requires)

@@ -1,5 +1,5 @@
 use Rattle.std.proofs.Common.{◌≡◌, ℕ, ◌<◌, List, Option, Some, All, subst, refl, arith, below_more}
-use Rattle.huge_filler.proofs.Common.{Serves, Measures, measures_at, IsPreferred}
+use Rattle.huge_filler.proofs.Common.{Serves, Measures, measures_at}
 use Rattle.huge_filler.proofs.Choosing.{preferred_is, none_has_room}
 use Rattle.huge_filler.proofs.filler.HugeFiller.preferred.Goals as goal
 
@@ -8,9 +8,7 @@ loop-tier-preserved c = below_more (λ t. All (λ key. ¬ (Serves t c.args.n key
 
 pub returns-in-Some-clause-found : goal.returns-in-Some-clause-found
 returns-in-Some-clause-found c =
-    let found = c.in-Some.ensures.found in
-    subst (λ (rows : List (Option Measures)). IsPreferred rows c.args.n c.in-Some.huge) c.self.view_is
-    (preferred_is c.self.inside.giving.rows c.self.inside.index.keys c.args.n c.self.invariant.keys c.loop-tier.tier c.in-Some.huge found.0 (omega arith) c.loop-tier.invariant found.1 found.2)
+    grind (arith, preferred_is c.self.inside.giving.rows c.self.inside.index.keys c.args.n c.self.invariant.keys c.loop-tier.tier c.in-Some.huge)
 
 pub returns-clause-none : goal.returns-clause-none
 returns-clause-none c =

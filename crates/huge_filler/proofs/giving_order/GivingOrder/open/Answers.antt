@@ -1,6 +1,5 @@
-use Rattle.std.proofs.Common.{◌≡◌, ℕ, replicate, List, [], ◌∷◌, ◌++◌, Option, None, sym, ap, subst, ◌∙◌, arith}
-use Rattle.sorted_list.specs.Contents.{Contents}
-use Rattle.huge_filler.proofs.Common.{replicate_more, Giver, Measures, giver_of, IsFollowed}
+use Rattle.std.proofs.Common.{◌≡◌, List, [], ◌∷◌, ◌++◌, Option, None, ap, ◌∙◌, arith}
+use Rattle.huge_filler.proofs.Common.{replicate_more, Measures, giver_of}
 use Rattle.huge_filler.proofs.Kept.{listed_next}
 use Rattle.huge_filler.proofs.Following.{followed_none}
 use Rattle.huge_filler.proofs.giving_order.GivingOrder.open.Goals as goal
@@ -21,6 +20,4 @@ pub invariant_of-result-2 : goal.invariant_of-result-2
 invariant_of-result-2 c =
     let was = c.loop-place.invariant in
     let same : c.loop-place.place ≡ c.args.huge = omega arith in
-    let none = ap (λ (n : ℕ). replicate {A = Option Measures} n None) same in
-    subst (λ (v : Contents Giver). IsFollowed c.loop-place.rows.items c.loop-place.told.items v.keys c.in_ok-open.field-0) (sym c.list-2.view_is)
-    (followed_none c.loop-place.rows.items c.loop-place.told.items c.loop-place.list.keys c.in_ok-open.field-0 c.args.huge c.requires (was.told ∙ none) (was.rows ∙ sym was.told) was.givers c.in_ok-open.ensures)
+    grind (arith, followed_none c.loop-place.rows.items c.loop-place.told.items c.loop-place.list.keys c.in_ok-open.field-0 c.args.huge c.requires)
