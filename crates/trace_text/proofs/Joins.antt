@@ -55,7 +55,4 @@ read-joined (line ∷ more) h =
     cc
 
 pub joined_are_cut : JoinedAreCut
-joined_are_cut lines h =
-    ap (λ (parts : List (List ℕ)). map read_line (without_last_empty parts)) (split-joined lines h)
-    ∙ ap (map read_line) (without_last_empty-behind (map (join_with_byte 32) lines))
-    ∙ read-joined lines h
+joined_are_cut lines h = grind (arith, split-joined, without_last_empty-behind, read-joined)

@@ -1,9 +1,10 @@
 -- A text that is printed line by line is cut into the fields that were printed.
-use Rattle.std.proofs.Common.{◌≡◌, ℕ, nat_lt, true, List, [], ◌∷◌, ◌++◌, map, get_or, codes, decimal, refl, sym, ap, ap₂, ◌∙◌, append-nil}
-use Rattle.std.proofs.lemmas.Bool.{ltb-true, and_parts}
+use Rattle.std.proofs.Common.{◌≡◌, ℕ, nat_lt, true, List, [], ◌∷◌, ◌++◌, map, get_or, codes, decimal, refl, sym, ap, ◌∙◌, append-nil}
 use Rattle.std.proofs.lemmas.List.Concat.{flat_map-append}
 use Rattle.std.proofs.lemmas.List.Elements.{All-nil, All-cons, All-append, All-map}
 use Rattle.std.specs.List.{All, flat_map, join_with_byte, list_all}
+use Rattle.std.proofs.lemmas.Bool.Decides.{nat_tests}
+use Rattle.std.proofs.Common.{arith}
 use Rattle.trace_text.specs.Joined.{IsFieldByte, IsField, IsLine, joined_line}
 use Rattle.trace_text.specs.Lines.{lines_of}
 use Rattle.trace_text.proofs.Decimals.{above_space, decimal_is_field}
@@ -12,9 +13,7 @@ use Rattle.trace_text.proofs.Joins.{joined_are_cut}
 -- a word of letters is a field
 pub word_is_field : (word : List ℕ) → list_all (λ b. nat_lt 32 b) word ≡ true → IsField word
 word_is_field [] h = All-nil IsFieldByte
-word_is_field (b ∷ bs) h =
-    let parts = and_parts (nat_lt 32 b) (list_all (λ c. nat_lt 32 c) bs) h in
-    All-cons IsFieldByte b bs (above_space b (ltb-true 32 b parts.0)) (word_is_field bs parts.1)
+word_is_field (b ∷ bs) h = grind (arith, nat_tests, word_is_field bs, All-cons, above_space)
 
 -- a text is these lines, which are printed one behind another
 pub record IsPrinted (text : List ℕ) (lines : List (List (List ℕ))) : Type 0 where
@@ -26,10 +25,7 @@ pub printed_is_cut : (text : List ℕ) (lines : List (List (List ℕ))) → IsPr
 printed_is_cut text lines printed = ap lines_of printed.joined ∙ joined_are_cut lines printed.are
 
 pub printed_append : (a b : List ℕ) (xs ys : List (List (List ℕ))) → IsPrinted a xs → IsPrinted b ys → IsPrinted (a ++ b) (xs ++ ys)
-printed_append a b xs ys p q = record {
-  are = All-append IsLine xs ys p.are q.are;
-  joined = ap₂ (λ (s t : List ℕ). s ++ t) p.joined q.joined ∙ sym (flat_map-append joined_line xs ys);
-}
+printed_append a b xs ys p q = grind (arith, All-append IsLine xs ys p.are q.are, flat_map-append joined_line xs ys)
 
 module _ {A : Type 0} where
   -- a word and words behind spaces are a line

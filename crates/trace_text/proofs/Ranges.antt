@@ -6,14 +6,10 @@ use Rattle.std.specs.List.{slice_range}
 
 -- what stands behind the first m elements of a part, and these elements
 pub drop-slice_range : (xs : List ℕ) (i j m : ℕ) → i + m ≤ j → drop m (slice_range xs i j) ≡ slice_range xs (i + m) j
-drop-slice_range xs i j m h =
-    let e : j - i ≡ m + (j - (i + m)) = omega arith in
-    ap (λ (t : ℕ). drop m (take t (drop i xs))) e ∙ drop-take m (j - (i + m)) (drop i xs) ∙ ap (take (j - (i + m))) (drop-drop m i xs)
+drop-slice_range xs i j m h = grind (arith, drop-take m (j - (i + m)) (drop i xs), drop-drop m i xs)
 
 pub take-drop : (xs : List ℕ) (i m : ℕ) → take m (drop i xs) ≡ slice_range xs i (i + m)
-take-drop xs i m =
-    let e : m ≡ i + m - i = omega arith in
-    ap (λ (t : ℕ). take t (drop i xs)) e
+take-drop xs i m = grind (arith)
 
 -- parts of one element and of two
 pub slice_range_one : (xs : List ℕ) (i j : ℕ) → j ≡ i + 1 → i < length xs → slice_range xs i j ≡ get_or xs i 0 ∷ []

@@ -1,6 +1,5 @@
-use Rattle.std.proofs.Common.{ℕ, ◌+◌, ◌<◌, ◌∷◌, min, length, drop, arith, ap, sym, ◌∙◌}
+use Rattle.std.proofs.Common.{ℕ, ◌+◌, ◌<◌, min, length, drop, arith, ap}
 use Rattle.std.proofs.lemmas.List.{take_rest, length-drop}
-use Rattle.trace_text.specs.Lines.{lines_of}
 use Rattle.trace_text.proofs.Cuts.{lines_of-next, takes_line}
 use Rattle.trace_text.proofs.lines.Lines.next.Goals as goal
 
@@ -11,13 +10,7 @@ returns-clause-lines c =
     let k = c.length_without_return.result in
     let rest = take_rest l.text.now l.start in
     let is = rw rest at c.length_before-length.ensures.first in
-    let size = rw rest at c.length_without_return.ensures in
-    let next = rw rest at c.min.ensures in
-    let some : 0 < length (drop l.start l.text.now) = omega (arith, length-drop l.start l.text.now) in
-    ap (λ v. v.lines) (sym c.self.view_is)
-    ∙ lines_of-next l.text.now l.start n k some is size
-    ∙ ap (λ f. f ∷ lines_of (drop (l.start + min (n + 1) (length (drop l.start l.text.now))) l.text.now)) (sym (ap (λ v. v.fields) c.new-line.ensures))
-    ∙ ap (λ (m : ℕ). c.new-line.result.fields ∷ lines_of (drop (l.start + m) l.text.now)) (sym next)
+    grind (arith, length-drop l.start l.text.now, lines_of-next l.text.now l.start n k)
 
 pub returns-clause-place : goal.returns-clause-place
 returns-clause-place c =
