@@ -1,7 +1,8 @@
 -- What holds of the lines so far holds with one more.
-use Rattle.std.proofs.Common.{◌≡◌, ℕ, ◌<◌, true, false, List, [], length, get_or, set, replicate, Option, Some, None, IfSome, refl, sym, ap, subst, ◌∙◌, arith, inl, inr, lit≤}
-use Rattle.std.proofs.lemmas.Bool.{cases_eq, cases_lt, false≢true}
+use Rattle.std.proofs.Common.{◌≡◌, ℕ, ◌<◌, true, false, List, [], get_or, set, replicate, Option, None, IfSome, refl, sym, subst, ◌∙◌, arith, lit≤}
+use Rattle.std.proofs.lemmas.Bool.{false≢true}
 use Rattle.std.proofs.lemmas.List.{get_or-set_same, get_or-set_other, get_or-replicate, get_or_past, set_past, length-replicate}
+use Rattle.std.proofs.lemmas.Bool.Decides.{nat_tests}
 use Rattle.tc_model.proofs.EachAfter.{each_of_none, each_of_push}
 use Rattle.tc_model.specs.declared.calls.Call.{Call}
 use Rattle.tc_model.specs.declared.calls.Call.TheVariants as call
@@ -25,9 +26,7 @@ IsConfig-default head.Cpus = (lit≤ tt, lit≤ tt)
 IsConfig-default _ = (lit≤ tt, lit≤ tt)
 
 limit-with : (s h : heads.Head) (value : ℕ) (config : Config) → IsValueOf s value → IsValueOf h (head_limit h config) → IsValueOf h (head_limit h (with_limit s value config))
-limit-with head.Cpus head.Cpus value config new old = assumption (new, old)
-limit-with s head.Cpus value config new old = assumption (new, old)
-limit-with _ _ value config new old = assumption (new, old)
+limit-with s h value config new old = grind (arith)
 
 AreCalls-none : (classes : ℕ) (config : Config) (calls : List ThreadCall) → calls ≡ [] → AreCalls classes config calls
 AreCalls-none classes config calls none earlier c later is = each_of_none (IsThreadCall classes config) earlier c later (is ∙ none)
@@ -35,21 +34,10 @@ AreCalls-none classes config calls none earlier c later is = each_of_none (IsThr
 -- pending moves, of which one is set anew
 moves-set : (config : Config) (moves : List (Option MoveTo)) (thread : ℕ) (now : Option MoveTo) → ((t : ℕ) → IfSome (get_or moves t None) (IsMove config))
     → IfSome now (IsMove config) → (t : ℕ) → IfSome (get_or (set moves thread now) t None) (IsMove config)
-moves-set config moves thread now known new t =
-    let P : Option MoveTo → Type 0 = λ o. IfSome o (IsMove config) in
-    elim (cases_lt thread (length moves)) [
-      | inl l ↦ elim (cases_eq t thread) [
-        | inl e ↦ subst P (sym (ap (λ (k : ℕ). get_or (set moves thread now) k None) e ∙ get_or-set_same moves thread now None l)) new
-        | inr ne ↦ subst P (sym (get_or-set_other moves thread t now None ne)) (known t)
-      ]
-      | inr g ↦ subst P (sym (ap (λ ms. get_or ms t None) (set_past moves thread now g))) (known t)
-    ]
+moves-set config moves thread now known new t = grind (arith, nat_tests, get_or-set_same, get_or-set_other, set_past)
 
 none_pending : (none : Option MoveTo) (n t : ℕ) → get_or (replicate n none) t none ≡ none
-none_pending none n t = elim (cases_lt t n) [
-  | inl l ↦ get_or-replicate n t none none l
-  | inr g ↦ get_or_past (replicate n none) t none (omega (arith, length-replicate n none))
-]
+none_pending none n t = grind (arith, nat_tests, get_or-replicate, get_or_past, length-replicate)
 
 -- a call more, which takes the thread's pending move
 IsSoFar-call : (classes number thread : ℕ) (what : Call) (before : SoFar) → IsSoFar classes before → thread < before.asked.config.threads
@@ -82,14 +70,7 @@ IsSoFar-form classes number (Malloc thread label size) before known range fits f
     IsSoFar-call classes number thread (call.Malloc (record { 0 = label }) size) before known fits.0 (range.0, range.1, fits.1)
 IsSoFar-form classes number (Free thread label) before known range fits first =
     IsSoFar-call classes number thread (call.Free (record { 0 = label })) before known fits.0 (range, fits.1, fits.2)
-IsSoFar-form classes number (Move thread instruction cpu) before known range fits first =
-    let moved : MoveTo = record { before = instruction; cpu = record { 0 = cpu } } in
-    record {
-      config = known.config;
-      calls = known.calls;
-      moves = moves-set before.asked.config before.moves thread (Some moved) known.moves (record { before = range; cpu = fits.1 });
-      early = λ h. absurd (false≢true (sym h));
-    }
+IsSoFar-form classes number (Move thread instruction cpu) before known range fits first = grind (arith, moves-set, false≢true)
 IsSoFar-form classes number (Release thread pages) before known range fits first =
     IsSoFar-call classes number thread (call.Release pages) before known fits range
 IsSoFar-form classes number (Drain thread cpu) before known range fits first =

@@ -1,8 +1,8 @@
 -- The verdict on a line, by what is known of it.
-use Rattle.std.proofs.Common.{◌≡◌, ◌&&◌, ℕ, ◌<◌, leb, Bool, true, false, List, Option, Some, None, Ok, Err, refl, sym, ap, ◌∙◌, cond, inl, inr, option_map, nat_lt, arith}
-use Rattle.std.proofs.lemmas.Bool.{cases_Bool, le-ltb, leb-false, false≢true}
+use Rattle.std.proofs.Common.{◌≡◌, ◌&&◌, ℕ, ◌<◌, leb, Bool, true, false, List, Option, Some, None, Ok, Err, refl, sym, ap, ◌∙◌, cond, option_map, arith}
+use Rattle.std.proofs.lemmas.Bool.{leb-false, false≢true}
 use Rattle.std.specs.Option.{ok_or}
-use Rattle.trace_reader.specs.declared.limits.TheConstants.{MOST_LINES}
+use Rattle.std.proofs.lemmas.Bool.Decides.{nat_tests}
 use Rattle.trace_reader.specs.declared.why.LineWhy.{LineWhy}
 use Rattle.trace_reader.specs.declared.why.LineWhy.TheVariants as why
 use Rattle.trace_reader.specs.declared.word.Word.{Word}
@@ -21,19 +21,11 @@ read_fields-lacks w fields lacks = ap (λ b. cond b (ok_or (form_of w fields) wh
 
 -- the fields behind the word are another number of them
 verdict-fields : (line : Line) (w : Word) → HasWord line w → has_fields w (other_fields line.fields) ≡ false → verdict rules line ≡ Some why.Fields
-verdict-fields line w known lacks =
-    let lines : nat_lt MOST_LINES line.number ≡ false = le-ltb MOST_LINES line.number known.few in
-    let word = known.word in
-    let early = known.early in
-    rw (lines, word, early, lacks) refl
+verdict-fields line w known lacks = grind (arith)
 
 -- they aren't all numbers in their ranges
 verdict-number : (line : Line) (w : Word) → HasWord line w → has_fields w (other_fields line.fields) ≡ true → form_of w (other_fields line.fields) ≡ None → verdict rules line ≡ Some why.Number
-verdict-number line w known has none =
-    let lines : nat_lt MOST_LINES line.number ≡ false = le-ltb MOST_LINES line.number known.few in
-    let word = known.word in
-    let early = known.early in
-    rw (lines, word, early, has, none) refl
+verdict-number line w known has none = grind (arith)
 
 -- the reason of the first rule that fails
 reason-cond : (fails : Bool) (first others : Option (Rule Line LineWhy))
@@ -43,62 +35,20 @@ reason-cond fails first others = grind arith
 -- the line has a form, and the rules on it decide
 verdict-form : (line : Line) (w : Word) (form : Form) → HasWord line w → has_fields w (other_fields line.fields) ≡ true
     → form_of w (other_fields line.fields) ≡ Some form → verdict rules line ≡ broken line.classes line.before.asked form
-verdict-form line w form known has is =
-    let lines : nat_lt MOST_LINES line.number ≡ false = le-ltb MOST_LINES line.number known.few in
-    let word = known.word in
-    let early = known.early in
-    rw (lines, word, early, has, is) (simp reason-cond)
+verdict-form line w form known has is = grind (arith, nat_tests, reason-cond)
 
 pub verdict-err : (line : Line) (w : Word) (reason : LineWhy) → HasWord line w → read_fields w (other_fields line.fields) ≡ Err reason → verdict rules line ≡ Some reason
-verdict-err line w reason known h =
-    elim (cases_Bool (has_fields w (other_fields line.fields))) [
-      | inl has ↦ by_form (form_of w (other_fields line.fields)) line w reason known has refl h
-      | inr lacks ↦
-          let is : Err why.Fields ≡ Err reason = sym (read_fields-lacks w (other_fields line.fields) lacks) ∙ h in
-          let e : why.Fields ≡ reason = cc in
-          verdict-fields line w known lacks ∙ ap Some e
-    ]
-  where
-    by_form : (form : Option Form) (line : Line) (w : Word) (reason : LineWhy) → HasWord line w → has_fields w (other_fields line.fields) ≡ true
-        → form_of w (other_fields line.fields) ≡ form → read_fields w (other_fields line.fields) ≡ Err reason → verdict rules line ≡ Some reason
-    by_form None line w reason known has is h =
-        let same : Err why.Number ≡ Err reason = sym (read_fields-has w (other_fields line.fields) None has is) ∙ h in
-        let e : why.Number ≡ reason = cc in
-        verdict-number line w known has is ∙ ap Some e
-    by_form (Some form) line w reason known has is h =
-        let same : Ok form ≡ Err reason = sym (read_fields-has w (other_fields line.fields) (Some form) has is) ∙ h in
-        absurd (cc)
+verdict-err line w reason known h = grind (arith, nat_tests, read_fields-lacks, verdict-fields, read_fields-has, verdict-number)
 
 -- where the rules on the fields pass, the fields are right in number, and the word has this form with them
 form_from_fields : (w : Word) (fields : List (List ℕ)) (form : Form) → read_fields w fields ≡ Ok form → (has_fields w fields ≡ true) × (form_of w fields ≡ Some form)
-form_from_fields w fields form h =
-    elim (cases_Bool (has_fields w fields)) [
-      | inl has ↦ (has, by_form w fields (form_of w fields) form has refl h)
-      | inr lacks ↦
-          let is : Err why.Fields ≡ Ok form = sym (read_fields-lacks w fields lacks) ∙ h in
-          absurd (cc)
-    ]
-  where
-    by_form : (w : Word) (fields : List (List ℕ)) (found : Option Form) (form : Form) → has_fields w fields ≡ true → form_of w fields ≡ found
-        → read_fields w fields ≡ Ok form → form_of w fields ≡ Some form
-    by_form w fields None form has is h =
-        let same : Err why.Number ≡ Ok form = sym (read_fields-has w fields None has is) ∙ h in
-        absurd (cc)
-    by_form w fields (Some found) form has is h =
-        let same : Ok found ≡ Ok form = sym (read_fields-has w fields (Some found) has is) ∙ h in
-        let e : found ≡ form = cc in
-        is ∙ ap Some e
+form_from_fields w fields form h = grind (arith, nat_tests, read_fields-lacks, read_fields-has)
 
 pub verdict-ok : (line : Line) (w : Word) (form : Form) → HasWord line w → read_fields w (other_fields line.fields) ≡ Ok form → verdict rules line ≡ broken line.classes line.before.asked form
-verdict-ok line w form known h =
-    let facts = form_from_fields w (other_fields line.fields) form h in
-    verdict-form line w form known facts.0 facts.1
+verdict-ok line w form known h = grind (arith, form_from_fields w (other_fields line.fields) form h, verdict-form line w form known)
 
 pub line_form-ok : (line : Line) (w : Word) (form : Form) → HasWord line w → read_fields w (other_fields line.fields) ≡ Ok form → line_form line.fields ≡ Some form
-line_form-ok line w form known h =
-    let facts = form_from_fields w (other_fields line.fields) form h in
-    let word = known.word in
-    rw word facts.1
+line_form-ok line w form known h = grind (arith, form_from_fields w (other_fields line.fields) form h)
 
 -- no rule on a form fails, so none of the first ones does
 none_first : (fails : Bool) (reason : LineWhy) (others : Option LineWhy) → cond fails (Some reason) others ≡ None → (fails ≡ false) × (others ≡ None)
