@@ -1,6 +1,7 @@
 -- Hands as their items and their room, and how calls go on.
 use Rattle.std.proofs.Common.{◌≡◌, ℕ, ◌+◌, List, ◌∷◌, drop, Option, Some, None, true, ap, sym, ◌∙◌, refl}
 use Rattle.std.specs.Prelude.{is_some}
+use Rattle.std.proofs.Common.{arith}
 use Rattle.tc_units.specs.Bag.{Contents}
 use Rattle.tc_units.specs.declared.units.Addr.{Addr}
 use Rattle.tc_units.specs.declared.spans.ClassRow.{ClassRow}
@@ -11,10 +12,9 @@ use Rattle.tc_model.specs.declared.calls.Call.TheVariants.{Malloc}
 use Rattle.tc_model.specs.declared.answers.Answer.TheVariants.{Block}
 use Rattle.rseq_core.specs.declared.regs.Regs.{Regs}
 use Rattle.call_steps.specs.declared.step.Asking.{Asking}
-use Rattle.call_steps.specs.declared.step.Serving.{Serving}
 use Rattle.call_steps.specs.declared.step.Step.{Step}
 use Rattle.call_steps.specs.declared.step.Next.TheVariants as next
-use Rattle.call_steps.specs.Hands.{with_hand, with_regs, stock_step, stock_regs, stocks, serves_first, serves}
+use Rattle.call_steps.specs.Hands.{with_regs, stock_step, stock_regs, serves}
 use Rattle.call_steps.specs.Fronts.{FrontCalls}
 use Rattle.call_steps.specs.Local.{Local, class_row, decided, goes, ends}
 use Rattle.call_steps.specs.Follows.{follows}
@@ -36,11 +36,4 @@ ends_by e l new (Some call) answer some made = made call refl
 pub served : {V R : Type 0} (e : FrontCalls V R) (l new : Local V R) (asking : Asking) (a : Addr) (hand : Contents Addr) (row : ClassRow) (len : ℕ) (regs : Regs) (next : Step R) → row ≡ class_row e.rows l → len ≡ row.size
     → l.regs.hand.items ≡ a ∷ hand.items → hand.spare ≡ l.regs.hand.spare + 1 → regs ≡ stock_regs e (record l.regs { hand = hand }) hand.items → next ≡ stock_step e l.seat (record { label = asking.label; addr = a }) hand.items
     → new ≡ goes (decided (with_regs l regs) (Malloc asking.label asking.size) (Block a len)) next → new ≡ serves e l asking
-served {V} {R} e l new asking a hand row len regs next at size is room regs_are next_is made =
-    let s : Serving = record { label = asking.label; addr = a } in
-    let by : Regs → ℕ → Step R → Local V R = λ r n to. goes (decided (with_regs l r) (Malloc asking.label asking.size) (Block a n)) to in
-    let with : Contents Addr → Local V R = λ h. stocks e (decided (with_hand l h) (Malloc asking.label asking.size) (Block a (class_row e.rows l).size)) s hand.items in
-    made
-    ∙ (ap (λ r. by r len next) regs_are
-    ∙ (ap (λ n. by (stock_regs e (record l.regs { hand = hand }) hand.items) n next) (size ∙ ap (λ (c : ClassRow). c.size) at)
-    ∙ (ap (by (stock_regs e (record l.regs { hand = hand }) hand.items) (class_row e.rows l).size) next_is ∙ (ap with (without_is l.regs.hand hand a is room) ∙ sym (ap (serves_first e l asking) is)))))
+served {V} {R} e l new asking a hand row len regs next at size is room regs_are next_is made = grind (arith, without_is)

@@ -9,7 +9,6 @@ use Rattle.call_steps.specs.Local.{Decided}
 use Rattle.call_steps.specs.Calls.{About}
 use Rattle.call_steps.specs.Rows.{undecided, under, without_call}
 use Rattle.call_steps.specs.declared.step.Step.{Step}
-use Rattle.call_steps.specs.declared.step.Step.TheVariants as does
 use Rattle.call_steps.specs.Kept.{decided_by, call_at}
 
 without : (o : Option Call) → is_some o ≡ true → without_call o ≡ 0
@@ -19,12 +18,7 @@ without (Some call) is = refl
 module _ {R : Type 0} (about : R → About) where
   -- a call that isn't decided isn't counted as one that is
   pub undecided_under : (s : Step R) → is_some (undecided about s) ≡ true → under about s ≡ 0
-  undecided_under (does.Front row) is = without (undecided about (does.Front row)) is
-  undecided_under (does.Shard row) is = without (undecided about (does.Shard row)) is
-  undecided_under (does.Heap row) is = without (undecided about (does.Heap row)) is
-  undecided_under (does.Map row) is = without (undecided about (does.Map row)) is
-  undecided_under (does.Names row) is = without (undecided about (does.Names row)) is
-  undecided_under does.Ended is = absurd (cc)
+  undecided_under s is = grind (arith)
 
 -- one answer more decides the call behind those that were answered
 pub decided_more : (script : List Planned) (answers : List Answered) (a : Answered) (call : Call) → call_at script (length answers) ≡ Some call
@@ -73,13 +67,3 @@ pub left_behind : (script : List Planned) (n : ℕ) → drop (n + 1) script ≡ 
 left_behind [] n = drop_all (n + 1) [] (omega arith) ∙ sym (ap (drop 1) (drop_all n [] (omega arith)))
 left_behind (p ∷ ps) zero = refl
 left_behind (p ∷ ps) (suc n) = ap (λ k. drop k (p ∷ ps)) (let e : suc n + 1 ≡ suc (n + 1) = omega arith in e) ∙ left_behind ps n
-
--- a call under way is one of the script
-call_low : (script : List Planned) (j : ℕ) (call : Call) → call_at script j ≡ Some call → j < length script
-call_low [] j call at = absurd (cc)
-call_low (p ∷ ps) zero call at = omega arith
-call_low (p ∷ ps) (suc j) call at = let low = call_low ps j call at in omega (arith, low)
-
-pub under_way_low : (script : List Planned) (j : ℕ) (o : Option Call) → is_some o ≡ true → ((call : Call) → o ≡ Some call → call_at script j ≡ Some call) → j < length script
-under_way_low script j None some of = absurd (cc)
-under_way_low script j (Some call) some of = call_low script j call (of call refl)

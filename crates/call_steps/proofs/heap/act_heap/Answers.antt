@@ -1,16 +1,12 @@
-use Rattle.std.proofs.Common.{◌≡◌, sym, ap, ◌∙◌, ◌∷◌}
-use Rattle.tc_units.specs.declared.units.Addr.{Addr}
+use Rattle.std.proofs.Common.{◌≡◌, sym, ap, ◌∙◌, ◌∷◌, arith}
 use Rattle.tc_units.specs.Bag.{Contents}
 use Rattle.tc_units.specs.declared.spans.SpanRef.{SpanRef}
 use Rattle.tc_model.specs.declared.calls.Call.TheVariants.{Free}
-use Rattle.tc_model.specs.declared.answers.Answer.TheVariants.{Freed}
 use Rattle.heap_rules.specs.Free.{freed}
-use Rattle.holdings.specs.Runs.{address_of}
 use Rattle.call_steps.specs.Acts.{heap_after, frees_span}
-use Rattle.call_steps.specs.Local.{Local, decided, ends}
-use Rattle.call_steps.specs.Rows.{undecided}
+use Rattle.call_steps.specs.Local.{Local}
 use Rattle.call_steps.specs.declared.step.Step.TheVariants as does
-use Rattle.call_steps.specs.declared.step.HeapStep.TheVariants.{GiveBack, FreeSpan}
+use Rattle.call_steps.specs.declared.step.HeapStep.TheVariants.{FreeSpan}
 use Rattle.call_steps.proofs.heap.act_heap.Goals as goal
 
 pub returns-in-Heap-GiveBack-clause-local : goal.returns-in-Heap-GiveBack-clause-local
@@ -19,11 +15,7 @@ returns-in-Heap-GiveBack-clause-local g c =
     let e = (g.F.FrontEnd.rules c.args.setting.now).calls in
     let label = c.in-Heap-GiveBack.field-0-0 in
     let run = c.in-Heap-GiveBack.run' in
-    let is : l.step ≡ does.Heap (GiveBack label run) = sym c.step.ensures ∙ c.in-Heap-GiveBack.is ∙ ap does.Heap c.in-Heap-GiveBack.field-0-is in
-    let at : c.addr_of-addr.result ≡ address_of run = ap (λ n. let a : Addr = record { 0 = n } in a) c.addr_of-addr.ensures in
-    c.end_deciding.ensures (Free label) (ap (undecided g.F.FrontEnd.about) is)
-    ∙ ap (λ a. ends e (decided l (Free label) (Freed a))) at
-    ∙ sym (ap (λ s. (heap_after e c.args.heap.now l s).1) is)
+    grind (arith, c.end_deciding.ensures (Free label))
 
 pub returns-in-Some-take_first-clause-heap : goal.returns-in-Some-take_first-clause-heap
 returns-in-Some-take_first-clause-heap g c =

@@ -1,8 +1,7 @@
 use Rattle.std.proofs.Common.{◌≡◌, ap, ◌∙◌, sym, arith, length, ◌<◌, get_or}
 use Rattle.std.specs.Prelude.{Some, option_map, slice_get}
 use Rattle.std.proofs.lemmas.Option.{slice_get-get_or}
-use Rattle.call_steps.specs.Local.{Local}
-use Rattle.call_steps.specs.Local.{told}
+use Rattle.call_steps.specs.Local.{Local, told}
 use Rattle.call_steps.proofs.ScriptFacts.{answered_within, decided_at}
 use Rattle.call_steps.proofs.local.Local.call_line.Given.{Over}
 use Rattle.call_steps.proofs.local.Local.call_line.Goals as goal
@@ -17,10 +16,7 @@ pub bounds-as_slice-i : goal.bounds-as_slice-i
 bounds-as_slice-i g c = omega (arith, answered g c, c.self.invariant.room, ap length c.as_slice.ensures)
 
 answered_there : (g : Over) (c : goal.After-as_slice-2 g) → c.args.i < length c.as_slice-2.result.now
-answered_there g c =
-    let l = c.self.inside in
-    let within : c.args.i < length l.answers.items = answered_within l.script l.answers.items c.args.self.now.answers c.args.i (omega (arith, c.self.invariant.room)) (ap (λ (m : Local g.row.F-Seat.Denot g.row.F-Row.Denot). m.answers) c.self.view_is) c.requires in
-    omega (arith, within, ap length c.as_slice-2.ensures)
+answered_there g c = grind (arith, answered_within)
 
 pub offset_bounds-as_slice-i-2 : goal.offset_bounds-as_slice-i-2
 offset_bounds-as_slice-i-2 g c = omega (arith, answered_there g c, c.as_slice-2.type_inv.1)

@@ -1,7 +1,6 @@
 use Rattle.std.proofs.Common.{◌≡◌, ◌+◌, List, drop, ap, ◌∙◌, arith, length}
 use Rattle.std.specs.Prelude.{Some, is_some}
-use Rattle.call_steps.specs.Local.{Local}
-use Rattle.call_steps.specs.Local.{Decided, decided}
+use Rattle.call_steps.specs.Local.{Local, Decided, decided}
 use Rattle.call_steps.specs.Rows.{undecided, under}
 use Rattle.call_steps.specs.Kept.{decided_by, call_at, over}
 use Rattle.call_steps.proofs.ScriptFacts.{decided_more, undecided_under}
