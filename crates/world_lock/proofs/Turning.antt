@@ -2,6 +2,7 @@
 use Rattle.std.proofs.Common.{◌≡◌, ℕ, ◌<◌, ◌↔◌, Bool, true, false, List, length, Option, Some, None, refl, sym, ◌∙◌}
 use Rattle.std.specs.Option.{IfNone}
 use Rattle.std.proofs.lemmas.Bool.{false≢true}
+use Rattle.std.proofs.Common.{arith}
 use Rattle.tc_model.specs.declared.board.Turn.{Turn}
 use Rattle.tc_model.specs.declared.board.Turn.TheVariants.{Held}
 use Rattle.tc_model.specs.declared.board.Halt.{Halt}
@@ -17,9 +18,7 @@ use Rattle.world_lock.specs.Stepping.{IsTurnAt, halt_of, turn_of}
 
 pub turn_at : {P L : Type 0} (r : Rules P L) (limit : ℕ) (order : List ℕ) (t : ℕ) (s : Stepped) → is_polite r (run r order) t ≡ true
     → s ≡ stepped r (run r order) t → (s ≡ step.Moved → length order < limit) → IsTurnAt r limit order t (turn_of s)
-turn_at r limit order t step.Moved polite answer room = (polite, sym answer, room refl)
-turn_at r limit order t step.NotYet polite answer room = (polite, sym answer)
-turn_at r limit order t step.Ended polite answer room = (polite, sym answer)
+turn_at r limit order t s polite answer room = grind (arith)
 
 pub halted_at : {P L : Type 0} (r : Rules P L) (limit : ℕ) (order : List ℕ) (t : ℕ) (x : StepFault) → is_polite r (run r order) t ≡ true
     → IsFaultAt r limit order t x → IsTurnAt r limit order t (turn.Halted (halt_of x))
@@ -36,9 +35,7 @@ pub goes : (b : Bool) (x : Turn) → b ≡ true → (x ≡ Held → ⊥) → (x 
 goes b x polite never = (λ is. absurd (never is), λ off. absurd (false≢true (sym off ∙ polite)))
 
 pub never_held : (s : Stepped) → turn_of s ≡ Held → ⊥
-never_held step.Moved is = absurd (cc)
-never_held step.NotYet is = absurd (cc)
-never_held step.Ended is = absurd (cc)
+never_held s is = grind (arith)
 
 pub never_halted : (cause : Halt) → turn.Halted cause ≡ Held → ⊥
 never_halted cause is = absurd (cc)
