@@ -76,13 +76,8 @@ step_right {xs} {ys} {i} {j} at merged {merged'} d apart low on is =
 -- one list is used up, and the rest of the other goes behind
 pub used_up : (xs ys merged : List Entry) (i j : ℕ) → Rising ticket_of xs → Rising ticket_of ys → (length xs ≤ i) ⊎ (length ys ≤ j)
     → LeadsOn xs ys merged i j → IsMergeOfTwo xs ys ((merged ++ drop i xs) ++ drop j ys)
-used_up xs ys merged i j rx ry (inl past) on =
-    let none : drop i xs ≡ [] = drop_all i xs past in
-    rw (none, append-nil merged) (on (drop j ys) (rw none (none_left (drop j ys) (rising_drop j ys ry))))
-used_up xs ys merged i j rx ry (inr past) on =
-    let none : drop j ys ≡ [] = drop_all j ys past in
-    let back = swap [] (drop i xs) (drop i xs) (none_left (drop i xs) (rising_drop i xs rx)) in
-    rw (none, append-nil (merged ++ drop i xs)) (on (drop i xs) (rw none back))
+used_up xs ys merged i j rx ry (inl past) on = grind (arith, drop_all, append-nil, none_left, rising_drop)
+used_up xs ys merged i j rx ry (inr past) on = grind (arith, drop_all, swap, none_left, rising_drop, append-nil)
 
 pub rest_is : (xs : List Entry) (i : ℕ) → take (length xs - i) (drop i xs) ≡ drop i xs
 rest_is xs i = take_all (length xs - i) (drop i xs) (omega (arith, length-drop i xs))

@@ -6,7 +6,7 @@ use Rattle.std.specs.List.{slice_get}
 use Rattle.std.proofs.lemmas.Option.{slice_get_within}
 use Rattle.tc_model.specs.declared.board.Entry.{Entry}
 use Rattle.tc_model.specs.Rises.{Has, AreApart, Stands, IsMerge}
-use Rattle.tc_model.proofs.Members.{at_longer, has_none, same_some}
+use Rattle.tc_model.proofs.Members.{at_longer, has_none}
 use Rattle.tc_model.proofs.Merged.{merge_by, merge_has}
 use Rattle.merge_journal.specs.Two.{IsMergeOfTwo}
 
@@ -56,12 +56,7 @@ halves fs bs xs ys zs apart m n two = merge_by (fs ++ bs) zs apart two.rises
 
 -- one list, or none
 pub merge_of_one : (xs : List Entry) → AreApart (xs ∷ []) → IsMerge (xs ∷ []) xs
-merge_of_one xs apart = merge_by (xs ∷ []) xs apart (apart.rise 0 xs refl) (λ e h. record { place = 0; list = xs; there = refl; has = h }) (λ e s. only xs s.place s.list s.there e s.has)
-  where
-    only : (xs : List Entry) (i : ℕ) (ys : List Entry) → slice_get (xs ∷ []) i ≡ Some ys → (e : Entry) → Has ys e → Has xs e
-    only xs zero ys at e h = subst (λ (l : List Entry). Has l e) (sym (same_some xs ys at)) h
-    only xs (suc zero) ys at e h = absurd (cc)
-    only xs (suc (suc i)) ys at e h = absurd (cc)
+merge_of_one xs apart = grind (arith, merge_by (xs ∷ []) xs apart (apart.rise 0 xs refl), apart.rise 0 xs refl)
 
 pub merge_of_none : AreApart [] → IsMerge [] []
 merge_of_none apart = merge_by [] [] apart tt (λ e h. absurd (has_none e h)) (λ e s. absurd (has_none s.list (s.place, s.there)))

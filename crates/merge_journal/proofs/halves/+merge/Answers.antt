@@ -1,5 +1,5 @@
-use Rattle.std.proofs.Common.{rules, ◌/◌, length, sym, subst}
-use Rattle.tc_model.specs.Rises.{AreApart, IsMerge}
+use Rattle.std.proofs.Common.{rules, ◌/◌, length, sym, subst, arith}
+use Rattle.tc_model.specs.Rises.{AreApart}
 use Rattle.merge_journal.proofs.Whole.{apart_front, apart_back, halves, halves_apart, halves_of}
 use Rattle.merge_journal.proofs.halves.+merge.Goals as goal
 
@@ -29,7 +29,4 @@ pub returns : goal.returns
 returns t c =
     let split = c.split_at.ensures in
     let apart = subst AreApart (sym (halves_of (λ v. v.items) (length c.args.entries.now / 2) c.args.entries.now)) c.requires.apart in
-    let front = rw split.front at c.in_ok-front.ensures in
-    let back = rw split.back at c.in_ok-back.ensures in
-    let two = rw (c.as_slice.ensures.value, c.as_slice-2.ensures.value) at c.in_ok-merged.ensures in
-    subst (λ l. IsMerge l c.in_ok-merged.merged.items) (halves_of (λ v. v.items) (length c.args.entries.now / 2) c.args.entries.now) (halves _ _ _ _ _ apart front back two)
+    grind (arith, halves_of (λ v. v.items) (length c.args.entries.now / 2) c.args.entries.now, halves)

@@ -1,9 +1,7 @@
-use Rattle.std.proofs.Common.{◌++◌, ◌⊎◌, ◌≤◌, length, List, inl, inr, arith, subst, sym, ap, ◌∙◌, drop}
+use Rattle.std.proofs.Common.{◌⊎◌, ◌≤◌, length, List, arith}
 use Rattle.tc_model.specs.declared.board.Entry.{Entry}
-use Rattle.merge_journal.specs.Two.{IsMergeOfTwo}
 use Rattle.merge_journal.proofs.Twos.{step_left, step_right, used_up, rest_is}
 use Rattle.merge_journal.proofs.halves.merge_two.Goals as goal
-use Rattle.merge_journal.proofs.halves.merge_two.Goals.{then-loop-i-test+else-j-second, else-loop-i-test}
 
 pub loop-i-preserved-then-first-i : goal.loop-i-preserved-then-first-i
 loop-i-preserved-then-first-i c = record {
@@ -28,11 +26,6 @@ loop-i-preserved c = record {
 pub returns : goal.returns
 returns c =
     let first : List Entry = c.args.first.now in let second : List Entry = c.args.second.now in
-    let over : (length first ≤ c.loop-i.i) ⊎ (length second ≤ c.loop-i.j) = elim c.loop-i-test.branch [
-      | then-loop-i-test+else-j-second w ↦ inr w.if-j-second.false
-      | else-loop-i-test w ↦ inl w.loop-i-test.false
-    ] in
+    let over : (length first ≤ c.loop-i.i) ⊎ (length second ≤ c.loop-i.j) = grind (arith) in
     let all = used_up first second c.loop-i.merged.items c.loop-i.i c.loop-i.j c.requires.rise.0 c.requires.rise.1 over c.loop-i.invariant.leads in
-    let one = c.in_ok-extend_from_slice.ensures.items ∙ ap (λ (l : List Entry). c.loop-i.merged.items ++ l) (rest_is first c.loop-i.i) in
-    let two = c.in_ok-extend_from_slice-2.ensures.items ∙ ap (λ (l : List Entry). c.extend_from_slice.new.self.items ++ l) (rest_is second c.loop-i.j) in
-    subst (IsMergeOfTwo first second) (sym (two ∙ ap (λ (l : List Entry). l ++ drop c.loop-i.j second) one)) all
+    grind (arith, rest_is first c.loop-i.i, rest_is second c.loop-i.j)
