@@ -1,8 +1,9 @@
 -- What an audit comes to, from what its steps come to.
-use Rattle.std.proofs.Common.{◌≡◌, ℕ, false, List, [], length, Option, Some, None, Result, Ok, Err, refl, sym, ap, subst, ◌∙◌, inl, inr}
+use Rattle.std.proofs.Common.{◌≡◌, ℕ, List, [], length, Option, Some, None, Result, Ok, Err, refl, sym, ap, subst, ◌∙◌, inl, inr}
 use Rattle.std.specs.Prelude.{IsErrAnd, IfOk, Vec}
 use Rattle.std.specs.declared.alloc.AllocError.{AllocError}
 use Rattle.std.specs.Global.{Global}
+use Rattle.std.proofs.Common.{arith}
 use Rattle.tc_units.specs.declared.spans.ClassRow.{ClassRow}
 use Rattle.tc_model.specs.Input.{Asked, scripts_of}
 use Rattle.tc_model.specs.declared.calls.Script.{Script}
@@ -16,7 +17,7 @@ use Rattle.journal_audit.specs.declared.verdict.Verdict.TheVariants.{Yes, No}
 use Rattle.journal_audit.specs.Rules.{plan_of, journal_of, audited}
 use Rattle.journal_audit.specs.Legal.{IsYesOnLegal}
 use Rattle.tcreplay.specs.declared.outcome.End.{End}
-use Rattle.tcreplay.specs.declared.outcome.End.TheVariants.{Done, WriteFault, Memory, AuditNo}
+use Rattle.tcreplay.specs.declared.outcome.End.TheVariants.{Done, AuditNo}
 use Rattle.tcreplay.specs.declared.input.AuditJob.{AuditJob}
 use Rattle.tcreplay.specs.Tasks.{Audit}
 use Rattle.tcreplay.specs.Verdict.{Verdict, rows_in, file_within, trace_limit}
@@ -25,7 +26,7 @@ use Rattle.tcreplay.specs.Writes.{IsWritten, IsLastEnd}
 use Rattle.tcreplay.specs.Auditing.{Case, case_of, seen_case, case_with, case_in, plan_in, verdict_in, yes_line, ended_by, case_verdict, audit_verdict, IsAuditAnswer, IsJudgedRight, IsAuditHeadline, IsAuditRefusal, HasAudited}
 use Rattle.tcreplay.proofs.EndFacts.{case_fails}
 use Rattle.tcreplay.proofs.JobFacts.{IsEarly, not_run, cut_early, table_err, trace_err, read_with, file_err}
-use Rattle.tcreplay.proofs.TriedFacts.{read_for, untouched, not_later}
+use Rattle.tcreplay.proofs.TriedFacts.{read_for, not_later}
 
 -- Reading: the journal is the further file.
 case_early : IsEarly None case_with
@@ -92,29 +93,7 @@ right_of job rows scripts bytes (Ok verdict) table told text read is right =
 -- The work ended with the reading, or memory ran out behind it.
 module _ (audit : Audit) (t u : Reading) (f g : Shelving) (out : Writing) where
   stopped : (end : End) (order : List ℕ) → order ≡ [] → IsCaseRead audit t u f g (Err end) → HasAudited audit t u f g out out end order
-  stopped end order none read =
-      let early : is_behind_run end ≡ false = elim read.answer [
-        | inl e ↦ case_fails is_behind_run read.given end not_run e
-        | inr cut ↦ cut_early None read.given t u f g end cut
-      ] in
-      let answer : IsAuditAnswer read.given t u f g end = elim read.answer [
-        | inl e ↦ inl (sym (ap (λ r. (case_verdict r).end) e))
-        | inr cut ↦ inr (inl cut)
-      ] in
-      record {
-        given = read.given;
-        told = read.told;
-        answer = answer;
-        no_order = none;
-        read = read.read;
-        out = untouched end (audit_verdict read.given).text out early;
-        law = λ later. absurd (not_later end early later);
-        headline = λ done. absurd (not_later end early (ap is_behind_run done));
-        refusal = λ line why is. absurd (not_later end early (ap is_behind_run is));
-      }
-
-  pub audited_stopped : (end answered : End) (order : List ℕ) → answered ≡ end → order ≡ [] → IsCaseRead audit t u f g (Err end) → HasAudited audit t u f g out out answered order
-  audited_stopped end answered order same none read = subst (λ e. HasAudited audit t u f g out out e order) (sym same) (stopped end order none read)
+  stopped end order none read = grind (arith, case_fails, not_run, cut_early, not_later)
 
 -- The journal was judged.
 module _ (audit : Audit) (t u : Reading) (f g : Shelving) (before after : Writing) (job : AuditJob) (verdict : journal.Verdict) (read : IsCaseRead audit t u f g (Ok job)) (is : verdict ≡ verdict_in (seen_case job)) (right : IsJudgedRight (seen_case job)) where
@@ -149,19 +128,10 @@ module _ (audit : Audit) (t u : Reading) (f g : Shelving) (before after : Writin
   took_at calls end done written = (subst (λ e. IsWritten e (yes_line calls) before after) done written).taken
 
   done_by : (v : journal.Verdict) → verdict ≡ v → (end : End) → IsLastEnd (ended_by v).end end → IsWritten end (ended_by v).text before after → end ≡ Done → IsAuditHeadline read.given before after
-  done_by (Yes calls) e end last written done = legal_at calls e (took_at calls end done written)
-  done_by (No line why) e end (inl same) written done = absurd (let never : AuditNo line why ≡ Done = sym same ∙ done in cc)
-  done_by (No line why) e end (inr failed) written done = absurd (let never : WriteFault ≡ Done = sym failed.0 ∙ done in cc)
+  done_by v e end last written done = grind (arith, legal_at, took_at)
 
   no_by : (v : journal.Verdict) → verdict ≡ v → (end : End) → IsLastEnd (ended_by v).end end → (line : ℕ) (why : AuditWhy) → end ≡ AuditNo line why → IsAuditRefusal read.given line why
-  no_by (Yes calls) e end (inl same) line why told = absurd (let never : Done ≡ AuditNo line why = sym same ∙ told in cc)
-  no_by (Yes calls) e end (inr failed) line why told = absurd (let never : WriteFault ≡ AuditNo line why = sym failed.0 ∙ told in cc)
-  no_by (No l w) e end (inl same) line why told =
-      let both : AuditNo l w ≡ AuditNo line why = sym same ∙ told in
-      let at_line : l ≡ line = cc in
-      let by_why : w ≡ why = cc in
-      refused_at line why (e ∙ (ap (λ n. No n w) at_line ∙ ap (No line) by_why))
-  no_by (No l w) e end (inr failed) line why told = absurd (let never : WriteFault ≡ AuditNo line why = sym failed.0 ∙ told in cc)
+  no_by v e end x3 line why told = grind (arith, refused_at)
 
   -- of the one case that was given
   right_for : (other : Case) → case_in read.given ≡ Ok other → IsJudgedRight other

@@ -1,20 +1,19 @@
 -- What the generation of a trace comes to, from what its steps come to.
-use Rattle.std.proofs.Common.{◌≡◌, ◌⊎◌, ℕ, Bool, true, false, List, [], length, Option, Result, Ok, Err, refl, sym, ap, subst, ◌∙◌, inl, inr}
+use Rattle.std.proofs.Common.{◌≡◌, ℕ, Bool, true, false, List, [], Option, Result, Ok, Err, refl, sym, ap, subst, ◌∙◌, inl, inr}
 use Rattle.std.specs.Prelude.{IsOk}
+use Rattle.std.proofs.Common.{arith}
 use Rattle.tc_units.specs.declared.spans.ClassRow.{ClassRow}
 use Rattle.tc_model.specs.Input.{Asked}
-use Rattle.tc_ports.specs.Faults.{Rose}
 use Rattle.tc_ports.specs.Told.{Took}
 use Rattle.tc_ports.specs.Ends.{Reading, Shelving, Writing}
 use Rattle.trace_reader.specs.Reading.{asked_by}
-use Rattle.tc_machine.specs.Inputs.{asked_of}
 use Rattle.tcreplay.specs.declared.outcome.End.{End}
-use Rattle.tcreplay.specs.declared.outcome.End.TheVariants.{Done, Usage, BadTable, BadTrace, ReadFault, WriteFault, Memory, TooLong, Full, BadOrder, FileFault, AuditNo}
+use Rattle.tcreplay.specs.declared.outcome.End.TheVariants.{Done, Usage, BadTrace, ReadFault, Memory, BadOrder, FileFault, AuditNo}
 use Rattle.tcreplay.specs.declared.generate.Made.{Made}
 use Rattle.tcreplay.specs.declared.run.Ran.{Ran}
 use Rattle.tcreplay.specs.declared.run.Telling.TheVariants.{Summary}
 use Rattle.tcreplay.specs.Tasks.{Workload, InTurn}
-use Rattle.tcreplay.specs.Verdict.{Job, Verdict, and_then, or_end, trace_end, rows_in, asked_of_text, run_verdict, order_of_job}
+use Rattle.tcreplay.specs.Verdict.{Job, Verdict, and_then, rows_in, asked_of_text, run_verdict, order_of_job}
 use Rattle.tcreplay.specs.Reads.{IsCounted, IsLoad, is_behind_run, seen_job}
 use Rattle.tcreplay.specs.Ran.{seen_ran, IsRan}
 use Rattle.tcreplay.specs.Writes.{Ends, TookText, IsRunEnd, IsLastEnd}
@@ -26,11 +25,7 @@ use Rattle.tcreplay.proofs.RanFacts.{run_end, order_is, lawful, text_is, have_al
 
 -- a trace that is valid for any number of classes is valid under any class table
 valid_under : (text : List ℕ) → ((classes : ℕ) → IsOk (asked_by classes text)) → (rows : List ClassRow) → IsOk (asked_of_text rows text)
-valid_under text valid rows = ok_end trace_end (asked_by (length rows) text) (valid (length rows))
-  where
-    ok_end : {A F : Type 0} (end_of : F → End) (r : Result A F) → IsOk r → IsOk (or_end end_of r)
-    ok_end end_of (Ok a) is = refl
-    ok_end end_of (Err e) is = absurd (let never : false ≡ true = is in cc)
+valid_under text valid rows = grind (arith)
 
 -- the job of a class table and of what a trace asks for
 abbrev job_on : List ClassRow → Asked → Result Job End
@@ -39,22 +34,10 @@ job_on rows asked = Ok (record { input = record { rows = rows; asked = asked }; 
 module _ (workload : Workload) (f g : Shelving) (valid : (classes : ℕ) → IsOk (asked_by classes (trace_of workload))) where
   -- the class table gave none, or memory ran out behind it
   pub made_without : (end : End) → IsLoad (λ (rows : List ClassRow). rows) rows_in workload.classes f g (Err end) → IsMade workload f g (Err end)
-  made_without end read = record {
-    valid = valid_under (trace_of workload) valid;
-    made = record { file = read.file; told = read.told; step = step read.step; files = read.files; once = read.once };
-    text = tt;
-  }
-    where
-      step : ((rows_in read.file ≡ Err end) × (g.faults ≡ f.faults)) ⊎ (((end ≡ Memory) × (g.faults ≡ f.faults)) ⊎ ((end ≡ FileFault) × Rose f.faults g.faults)) → ((generation_job workload read.file ≡ Err end) × (g.faults ≡ f.faults)) ⊎ (((end ≡ Memory) × (g.faults ≡ f.faults)) ⊎ ((end ≡ FileFault) × Rose f.faults g.faults))
-      step (inl e) = inl (ap (and_then (generation_job_with workload)) e.0, e.1)
-      step (inr other) = inr other
+  made_without end read = grind (arith, valid_under (trace_of workload) valid)
 
   pub made_memory : (rows : List ClassRow) → IsLoad (λ (rows : List ClassRow). rows) rows_in workload.classes f g (Ok rows) → IsMade workload f g (Err Memory)
-  made_memory rows read = record {
-    valid = valid_under (trace_of workload) valid;
-    made = record { file = read.file; told = read.told; step = inr (inl (refl, read.step.1)); files = read.files; once = read.once };
-    text = tt;
-  }
+  made_memory rows read = grind (arith, valid_under (trace_of workload) valid)
 
 -- the ends that no generation has
 abbrev is_barred : End → Bool
@@ -69,18 +52,7 @@ not_barred : FailsTable is_barred
 not_barred = record { all = record { missing = refl; memory = refl; long = λ _. refl }; bad = λ _ _. refl }
 
 generation_end_by : (end : End) → is_barred end ≡ false → IsGenerationEnd end
-generation_end_by Done is = tt
-generation_end_by Usage is = absurd (cc)
-generation_end_by (BadTable row why) is = tt
-generation_end_by (BadTrace line why) is = absurd (cc)
-generation_end_by ReadFault is = absurd (cc)
-generation_end_by WriteFault is = tt
-generation_end_by Memory is = tt
-generation_end_by (TooLong limit) is = tt
-generation_end_by (Full ticket) is = tt
-generation_end_by (BadOrder line why) is = absurd (cc)
-generation_end_by FileFault is = tt
-generation_end_by (AuditNo line why) is = absurd (cc)
+generation_end_by end is = grind (arith)
 
 -- a replay that can't begin ends at the class table
 table_ends : (workload : Workload) (end : End) → ((rows : List ClassRow) → IsOk (asked_of_text rows (trace_of workload)))
@@ -95,9 +67,7 @@ table_ends workload end valid file (Ok rows) is bad = absurd (by_asked (asked_of
 
 -- before a run nothing is written
 not_written : (end : End) (trace summary : List ℕ) (out notes : Writing) → is_behind_run end ≡ false → AreWritten end trace summary out out notes notes
-not_written Done trace summary out notes early = absurd (cc)
-not_written WriteFault trace summary out notes early = absurd (cc)
-not_written end trace summary out notes early = (refl, refl)
+not_written end trace summary out notes early = grind (arith)
 
 not_later : (end : End) → is_behind_run end ≡ false → is_behind_run end ≡ true → ⊥
 not_later end early later = let e : false ≡ true = sym early ∙ later in cc
@@ -113,21 +83,7 @@ module _ (workload : Workload) (source : Reading) (f g : Shelving) (out notes : 
   stopped_by : (end : End) (order : List ℕ) (made : IsMade workload f g (Err end)) → IsGenerationAnswer workload made.made.file f g end order
       → is_barred end ≡ false → is_behind_run end ≡ false → IsCounted FileFault end f.faults g.faults
       → HasGenerated workload (ends_of source f out notes) (ends_of source g out notes) end order
-  stopped_by end order made answer barred early count = record {
-    table = made.made.file;
-    told = made.made.told;
-    valid = made.valid;
-    answer = answer;
-    ends = generation_end_by end barred;
-    trace = refl;
-    files = made.made.files;
-    once = made.made.once;
-    file_count = count;
-    written = not_written end (trace_of workload) (generation_verdict workload made.made.file).text out notes early;
-    law = λ later. absurd (not_later end early later);
-    run = λ later. absurd (not_later end early later);
-    headline = λ done. absurd (not_later end early (ap is_behind_run done));
-  }
+  stopped_by end order made answer barred early count = grind (arith, generation_end_by, not_written, not_later)
 
   -- the work ended before the run
   generated_stopped : (end : End) (order : List ℕ) → order ≡ [] → IsMade workload f g (Err end) → HasGenerated workload (ends_of source f out notes) (ends_of source g out notes) end order
@@ -146,9 +102,7 @@ module _ (workload : Workload) (source : Reading) (f g : Shelving) (out notes : 
 
 -- the end of a run, or a write fault behind it, is one that a generation has
 run_generation_end : (end : End) → IsRunEnd end → IsGenerationEnd end
-run_generation_end Done is = tt
-run_generation_end (Full ticket) is = tt
-run_generation_end end is = absurd is
+run_generation_end end is = grind (arith)
 
 last_generation_end : (ran end : End) → IsRunEnd ran → IsLastEnd ran end → IsGenerationEnd end
 last_generation_end ran end is (inl same) = subst IsGenerationEnd (sym same) (run_generation_end ran is)
@@ -189,10 +143,7 @@ module _ (workload : Workload) (source : Reading) (f g : Shelving) (out written_
 
   -- of the one job that was made
   of_job : (p : Job → Type 0) → p job → (other : Job) → generation_job workload file ≡ Ok other → p other
-  of_job p holds other is_other =
-      let made_it : generation_job workload file ≡ Ok job = of.made.step.0 in
-      let e : job ≡ other = cc in
-      subst p e holds
+  of_job p holds other is_other = grind (arith)
 
   -- the trace was replayed
   pub generated_ran : HasGenerated workload (ends_of source f out notes) (ends_of source g written_out written_notes) end order

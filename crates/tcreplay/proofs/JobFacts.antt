@@ -1,6 +1,6 @@
 -- What the steps of reading come to together: the class table, the trace, and what is behind them.
-use Rattle.std.proofs.Common.{◌≡◌, ℕ, ◌≤◌, inl, inr, true, false, List, [], Option, Some, None, Result, Ok, Err, refl, sym, ap, subst, ◌∙◌, arith}
-use Rattle.std.specs.Prelude.{IfSome, IsOk, IsErr, IsErrAnd, is_ok, is_err, is_some, Vec}
+use Rattle.std.proofs.Common.{◌≡◌, ℕ, ◌≤◌, inl, true, false, List, [], Option, Some, None, Result, Ok, Err, refl, sym, ap, subst, ◌∙◌, arith}
+use Rattle.std.specs.Prelude.{IfSome, IsOk, IsErr, IsErrAnd, is_err, Vec}
 use Rattle.std.specs.Global.{Global}
 use Rattle.tc_units.specs.declared.spans.ClassRow.{ClassRow}
 use Rattle.tc_model.specs.Input.{Asked}
@@ -11,12 +11,12 @@ use Rattle.tc_ports.specs.Ends.{Reading, Shelving}
 use Rattle.trace_reader.specs.declared.trace.Trace.{Trace}
 use Rattle.tc_machine.specs.Inputs.{asked_of}
 use Rattle.tcreplay.specs.declared.outcome.End.{End}
-use Rattle.tcreplay.specs.declared.outcome.End.TheVariants.{Done, WriteFault, Full, Memory, TooLong, ReadFault, FileFault, AuditNo}
+use Rattle.tcreplay.specs.declared.outcome.End.TheVariants.{Done, TooLong, ReadFault, FileFault}
 use Rattle.tcreplay.specs.declared.input.Job.{Job}
 use Rattle.tcreplay.specs.Tasks.{Front, Replay, file_of}
 use Rattle.tcreplay.specs.Verdict as verdict
 use Rattle.tcreplay.specs.Verdict.{Given, and_then, trace_limit, rows_in, asked_in, picks_in, picks_or, job_with, read_of}
-use Rattle.tcreplay.specs.Reads.{IsFile, IsStep, IsLoad, ArePicks, IsTraceRead, CutOff, HasRead, IsAllRead, IsReadAs, AreRead, IsJobRead, IsCounted, seen_job, loads_behind, most_gone, is_of_file, is_behind_trace, is_behind_run}
+use Rattle.tcreplay.specs.Reads.{IsFile, IsStep, IsLoad, ArePicks, IsTraceRead, CutOff, HasRead, IsReadAs, AreRead, IsJobRead, IsCounted, seen_job, most_gone, is_of_file, is_behind_trace, is_behind_run}
 use Rattle.tcreplay.proofs.EndFacts.{FailsTable, FailsJob, table_fails, job_fails}
 use Rattle.tcreplay.proofs.LoadFacts.{some_file, some_file_is}
 use Rattle.tcreplay.proofs.TraceFacts.{some_text, some_text_is, lost_none, lost_more}
@@ -31,32 +31,16 @@ behind_not end is later = let e : false ≡ true = sym is ∙ later in cc
 
 -- the reading has no end behind a run
 pub not_run : FailsJob is_behind_run
-not_run = record {
-  table = record { all = record { missing = refl; memory = refl; long = λ _. refl }; bad = λ _ _. refl };
-  trace = λ _ _. refl;
-  order = λ _ _. refl;
-}
+not_run = grind (arith)
 
 pub cut_early : (runner : Option Front) (given : Given) (t u : Reading) (f g : Shelving) (end : End) → CutOff runner given t u f g end → is_behind_run end ≡ false
-cut_early runner given t u f g Done cut = absurd cut
-cut_early runner given t u f g WriteFault cut = absurd cut
-cut_early runner given t u f g (Full ticket) cut = absurd cut
-cut_early runner given t u f g (AuditNo line why) cut = absurd cut
-cut_early runner given t u f g end cut = refl
+cut_early runner given t u f g end cut = grind (arith)
 
 -- a step that ended left the count of faults, or it failed
 step_count : {A B : Type 0} (seen : B → A) (verdict : Result A End) (fault end : End) (old new : ℕ) → IsStep seen verdict fault old new (Err end) → IsCounted fault end old new
-step_count seen verdict fault end old new (inl e) = inl e.1
-step_count seen verdict fault end old new (inr (inl memory)) = inl memory.1
-step_count seen verdict fault end old new (inr (inr failed)) = inr failed
+step_count seen verdict fault end old new x6 = grind (arith)
 
 -- no end of a file is want of memory, or a fault of the source
-memory_not : (end : End) → end ≡ Memory → is_of_file end ≡ true → ⊥
-memory_not end is file = let e : false ≡ true = sym (ap is_of_file is) ∙ file in cc
-
-source_not : (end : End) → end ≡ ReadFault → is_of_file end ≡ true → ⊥
-source_not end is file = let e : false ≡ true = sym (ap is_of_file is) ∙ file in cc
-
 -- where nothing of the trace is gone that the limit doesn't allow, no more is gone than at any end
 gone_least : (end : End) → trace_limit ≤ most_gone end
 gone_least (TooLong limit) = omega arith
@@ -79,26 +63,17 @@ further_is files (Some name) = some_file_is files name
 
 -- a class table that is good, in a load that didn't fail, ends nothing but for want of memory
 then_ok : {A B : Type 0} (first : Option (List ℕ) → Result A End) (next : A → Result B End) (file : Option (List ℕ)) → IsOk (and_then next (first file)) → IsOk (first file)
-then_ok {A} {B} first next file good = of_result (first file) good
-  where
-    of_result : (r : Result A End) → IsOk (and_then next r) → IsOk r
-    of_result (Ok a) good = refl
-    of_result (Err e) good = good
+then_ok {A} {B} first next file good = grind (arith)
 
 table_only : (file : Option (List ℕ)) (end : End) (f g : Shelving) → is_of_file end ≡ true → IsOk (rows_in file) → (Rose f.faults g.faults → ⊥)
     → IsStep (λ (rows : List ClassRow). rows) (rows_in file) FileFault f.faults g.faults (Err end) → ⊥
-table_only file end f g is good whole (inl e) = let wrong : false ≡ true = sym (ap is_ok e.0) ∙ good in cc
-table_only file end f g is good whole (inr (inl memory)) = memory_not end memory.0 is
-table_only file end f g is good whole (inr (inr failed)) = whole failed.1
+table_only file end f g is good whole x7 = grind (arith)
 
 -- and so does a trace that is good
 trace_only : (runner : Option Front) (rows : List ClassRow) (file : Option (List ℕ)) (text : List ℕ) (end : End) (t u : Reading) → rows_in file ≡ Ok rows
     → is_of_file end ≡ true → IsOk (and_then (λ rows. asked_in runner rows text) (rows_in file))
     → IsStep asked_of (asked_in runner rows text) ReadFault t.faults u.faults (Err end) → ⊥
-trace_only runner rows file text end t u table is good (inl e) =
-    let wrong : false ≡ true = sym (ap is_ok (ap (and_then (λ rows. asked_in runner rows text)) table ∙ e.0)) ∙ good in cc
-trace_only runner rows file text end t u table is good (inr (inl memory)) = memory_not end memory.0 is
-trace_only runner rows file text end t u table is good (inr (inr failed)) = source_not end failed.0 is
+trace_only runner rows file text end t u table is good x10 = grind (arith)
 
 -- what the class table and the trace gave together
 asked_is : (runner : Option Front) (file : Option (List ℕ)) (text : List ℕ) (rows : List ClassRow) (trace : Trace) → rows_in file ≡ Ok rows
@@ -126,74 +101,32 @@ module _ {J K : Type 0} (runner : Option Front) (behind : Given → List ClassRo
 
   -- a reading that stopped came to no end behind a run
   stops_early : (given : Given) (t u : Reading) (f g : Shelving) (end : End) → IsReadAs runner seen (read_of runner behind given) given t u f g (Err end) → is_behind_run end ≡ true → ⊥
-  stops_early given t u f g end answer later =
-      let early : is_behind_run end ≡ false = elim answer [
-        | inl e ↦ early given end e
-        | inr cut ↦ cut_early runner given t u f g end cut
-      ] in
-      let e : false ≡ true = sym early ∙ later in cc
+  stops_early given t u f g end answer later = grind (arith)
 
   -- the class table ends the work
   table_stops : (t : Reading) (f g : Shelving) (end : End) → IsLoad (λ (rows : List ClassRow). rows) rows_in classes f g (Err end) → WereRead t t f g (Err end)
   table_stops t f g end load =
       let given : Given = record { table = load.file; trace = some_text t.left; file = further f.files named; came = [] } in
-      let answer : IsReadAs runner seen (read_of runner behind given) given t t f g (Err end) = elim load.step [
-        | inl e ↦ inl (ap (λ r. and_then (λ rows. and_then (behind given rows) (asked_in runner rows given.trace)) r) e.0)
-        | inr (inl memory) ↦ inr (subst (CutOff runner given t t f g) (sym memory.0) tt)
-        | inr (inr failed) ↦ inr (subst (CutOff runner given t t f g) (sym failed.0) (failed.1, inl (load.once, refl)))
-      ] in
-      let before : is_behind_trace end ≡ false = elim load.step [
-        | inl e ↦ table_fails is_behind_trace load.file end not_behind e.0
-        | inr (inl memory) ↦ ap is_behind_trace memory.0
-        | inr (inr failed) ↦ ap is_behind_trace failed.0
-      ] in
-      record {
-        given = given;
-        told = record { table = load.told; trace = some_text_is t.left; file = further_is f.files named };
-        none_came = refl;
-        answer = answer;
-        read = record {
-          files = load.files;
-          loads = inl load.once;
-          behind_run = λ later. absurd (stops_early given t t f g end answer later);
-          behind_file = λ file good whole. absurd (table_only load.file end f g file (then_ok rows_in (λ rows. asked_in runner rows given.trace) load.file good) whole load.step);
-          file_count = step_count (λ (rows : List ClassRow). rows) (rows_in load.file) FileFault end f.faults g.faults load.step;
-          untouched = λ _. refl;
-          lost = lost_none t.left (most_gone end);
-          reads = omega arith;
-          drained = λ is. absurd (behind_not end before is);
-          trace_count = inl refl;
-        };
-      }
+      grind (
+        arith,
+        table_fails is_behind_trace load.file end not_behind,
+        not_behind,
+        some_text_is t.left,
+        further_is f.files named,
+        stops_early given t t f g end,
+        table_only load.file end f g,
+        then_ok rows_in (λ rows. asked_in runner rows given.trace) load.file,
+        step_count (λ (rows : List ClassRow). rows) (rows_in load.file) FileFault end f.faults g.faults load.step,
+        lost_none t.left (most_gone end),
+        behind_not end,
+      )
 
   -- the trace ends the work
   trace_stops : (t u : Reading) (f g : Shelving) (rows : List ClassRow) (end : End) → IsLoad (λ (rows : List ClassRow). rows) rows_in classes f g (Ok rows)
       → IsTraceRead runner rows t u (Err end) → WereRead t u f g (Err end)
   trace_stops t u f g rows end load trace =
       let given : Given = record { table = load.file; trace = trace.text; file = further f.files named; came = [] } in
-      let answer : IsReadAs runner seen (read_of runner behind given) given t u f g (Err end) = elim trace.step [
-        | inl e ↦ inl (ap (λ r. and_then (λ rows. and_then (behind given rows) (asked_in runner rows given.trace)) r) load.step.0 ∙ ap (and_then (behind given rows)) e.0)
-        | inr (inl memory) ↦ inr (subst (CutOff runner given t u f g) (sym memory.0) tt)
-        | inr (inr failed) ↦ inr (subst (CutOff runner given t u f g) (sym failed.0) (failed.1, ap is_ok load.step.0))
-      ] in
-      record {
-        given = given;
-        told = record { table = load.told; trace = trace.told; file = further_is f.files named };
-        none_came = refl;
-        answer = answer;
-        read = record {
-          files = load.files;
-          loads = inl load.once;
-          behind_run = λ later. absurd (stops_early given t u f g end answer later);
-          behind_file = λ file good _. absurd (trace_only runner rows load.file trace.text end t u load.step.0 file good trace.step);
-          file_count = inl load.step.1;
-          untouched = λ err. absurd (not_err (rows_in load.file) rows load.step.0 err);
-          lost = trace.lost;
-          reads = trace.reads;
-          drained = trace.drained;
-          trace_count = step_count asked_of (asked_in runner rows trace.text) ReadFault end t.faults u.faults trace.step;
-        };
-      }
+      grind (arith, further_is f.files named, stops_early given t u f g end, trace_only runner, not_err (rows_in load.file), step_count asked_of)
 
   -- what a good class table and a good trace come to
   good_is : (given : Given) (rows : List ClassRow) (trace : Trace) → rows_in given.table ≡ Ok rows → asked_in runner rows given.trace ≡ Ok (asked_of trace)
@@ -206,24 +139,7 @@ module _ {J K : Type 0} (runner : Option Front) (behind : Given → List ClassRo
       → ((given : Given) → given.came ≡ [] → behind given rows (asked_of trace) ≡ Ok (seen gave)) → WereRead t u f g (Ok gave)
   read_without t u f g rows trace gave none load read gives =
       let given : Given = record { table = load.file; trace = read.text; file = None; came = [] } in
-      record {
-        given = given;
-        told = record { table = load.told; trace = read.told; file = subst (λ (o : Option (List ℕ)). IfSome o (λ name. IsFile f.files name None)) (sym none) tt };
-        none_came = refl;
-        answer = good_is given rows trace load.step.0 read.step.0 ∙ gives given refl;
-        read = record {
-          files = load.files;
-          loads = inl load.once;
-          behind_run = λ _. record { drained = read.drained refl; loads = load.once ∙ sym (ap (λ o. loads_behind o f.loads) none) };
-          behind_file = λ file. absurd (cc);
-          file_count = inl load.step.1;
-          untouched = λ err. absurd (not_err (rows_in load.file) rows load.step.0 err);
-          lost = read.lost;
-          reads = read.reads;
-          drained = λ _. read.drained refl;
-          trace_count = inl read.step.1;
-        };
-      }
+      grind (arith, good_is given rows trace load.step.0 read.step.0, gives given refl, read.drained refl, not_err (rows_in load.file) rows load.step.0)
 
   pub table_err : (t : Reading) (f g : Shelving) (end : End) (result : Result K End) → IsErrAnd result (λ e. e ≡ end)
       → IsLoad (λ (rows : List ClassRow). rows) rows_in classes f g (Err end) → WereRead t t f g result
@@ -241,21 +157,7 @@ module _ {J K : Type 0} (runner : Option Front) (behind : Given → List ClassRo
         → asked_in runner rows given.trace ≡ Ok (asked_of trace) → g.files ≡ f.files → h.files ≡ g.files → g.loads ≡ one_more f.loads
         → h.loads ≡ one_more g.loads → IsCounted FileFault end f.faults h.faults → IsTraceRead runner rows t u (Ok trace)
         → HasRead runner named given t u f h end
-    behind_file t u f g h rows trace given end good asked first second one two count read =
-        let drained = read.drained refl in
-        let all : IsAllRead named u f h = record { drained = drained; loads = two ∙ (ap one_more one ∙ sym (ap (λ o. loads_behind o f.loads) is_named)) } in
-        record {
-          files = second ∙ first;
-          loads = inr (record { twice = two ∙ ap one_more one; named = ap is_some is_named; good = ap is_ok (asked_is runner given.table given.trace rows trace good asked); drained = drained });
-          behind_run = λ _. all;
-          behind_file = λ _ _ _. all;
-          file_count = count;
-          untouched = λ err. absurd (not_err (rows_in given.table) rows good err);
-          lost = gone_for t.left u.left end read.lost;
-          reads = read.reads;
-          drained = λ _. drained;
-          trace_count = inl read.step.1;
-        }
+    behind_file t u f g h rows trace given end good asked first second one two count read = grind (arith)
 
     -- the further file ends the work
     file_stops : (t u : Reading) (f g h : Shelving) (rows : List ClassRow) (trace : Trace) (end : End)
@@ -263,11 +165,8 @@ module _ {J K : Type 0} (runner : Option Front) (behind : Given → List ClassRo
         → IsLoad value (step trace.config.threads) name g h (Err end) → WereRead t u f h (Err end)
     file_stops t u f g h rows trace end load read file =
         let given : Given = record { table = load.file; trace = read.text; file = file.file; came = [] } in
-        let answer : IsReadAs runner seen (read_of runner behind given) given t u f h (Err end) = elim file.step [
-          | inl e ↦ inl (good_is given rows trace load.step.0 read.step.0 ∙ (behind_is given rows (asked_of trace) ∙ ap (and_then (λ p. Ok (made rows (asked_of trace) p))) e.0))
-          | inr (inl memory) ↦ inr (subst (CutOff runner given t u f h) (sym memory.0) tt)
-          | inr (inr failed) ↦ inr (subst (CutOff runner given t u f h) (sym failed.0) (subst (λ n. Rose n h.faults) load.step.1 failed.1, inr (ap is_ok (asked_is runner load.file read.text rows trace load.step.0 read.step.0))))
-        ] in
+        let answer : IsReadAs runner seen (read_of runner behind given) given t u f h (Err end) =
+        grind (arith, good_is given rows trace load.step.0 read.step.0, asked_is runner load.file read.text rows trace load.step.0 read.step.0) in
         record {
           given = given;
           told = record { table = load.told; trace = read.told; file = file_told named name f.files g.files file.file is_named load.files file.told };

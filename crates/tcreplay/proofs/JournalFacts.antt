@@ -1,6 +1,5 @@
 -- What is printed of a run that has ended is a legal journal.
-use Rattle.std.proofs.Common.{◌≡◌, ℕ, ◌<◌, ◌≤◌, List, [], length, map, Bool}
-use Rattle.std.proofs.Common.{Option, Some, sym, ap, ◌∙◌, subst, inl, inr, arith}
+use Rattle.std.proofs.Common.{◌≡◌, ℕ, ◌<◌, ◌≤◌, List, [], length, map, Bool, Option, Some, sym, ap, ◌∙◌, inl, inr, arith}
 use Rattle.std.specs.Prelude.{All}
 use Rattle.std.specs.List.{range_with_len}
 use Rattle.std.specs.Option.{option_map_or}
@@ -41,10 +40,7 @@ planned input t low =
     ap (λ (o : Option Script). map (λ (p : Planned). p.call) (option_map_or (λ (s : Script). s.calls) o [])) (at ∙ ap (λ (s : Script). Some s) own)
 
 unplanned : (input : Input) (t : ℕ) → input.asked.config.threads ≤ t → calls_planned (plan_in input) t ≡ []
-unplanned input t high =
-    let n = long input in
-    let none = slice_get_past (scripts_of input.asked) t (omega arith) in
-    ap (λ (o : Option Script). map (λ (p : Planned). p.call) (option_map_or (λ (s : Script). s.calls) o [])) none
+unplanned input t high = grind (arith, long, slice_get_past)
 
 -- of calls that are a run on disjoint blocks and each thread's whole script, as a run tells them
 module _ (told : Input → List ℕ → Finished) (law : PrintedIsLegal) (input : Input) (order : List ℕ)
@@ -65,6 +61,4 @@ module _ (told : Input → List ℕ → Finished) (law : PrintedIsLegal) (input 
 pub told_legal : (told : Input → List ℕ → Finished) (law : PrintedIsLegal) (input : Input) (order : List ℕ) (telling : Telling) (f : Finished)
     → f ≡ told input order → IsBlockRun input.asked.config.huge (length_of input.rows) f.calls → TellsScripts input.asked f.calls → AreTellable telling f.calls
     → IsJournal told telling input order
-told_legal told law input order telling f is blocks tells tellable =
-    legal_told told law input order (subst (λ (g : Finished). IsBlockRun input.asked.config.huge (length_of input.rows) g.calls) is blocks)
-    (subst (λ (g : Finished). TellsScripts input.asked g.calls) is tells) telling (subst (λ (g : Finished). AreTellable telling g.calls) is tellable)
+told_legal told law input order telling f is blocks tells tellable = grind (arith, legal_told)

@@ -1,5 +1,5 @@
 -- What a load of a file gives, and what is made of it.
-use Rattle.std.proofs.Common.{◌≡◌, ℕ, ◌+◌, ◌<◌, ◌≤◌, inl, inr, cond, List, [], length, Option, Some, None, Result, Ok, Err, refl, sym, ap, subst, ◌∙◌, arith}
+use Rattle.std.proofs.Common.{◌≡◌, ℕ, ◌+◌, ◌<◌, ◌≤◌, inl, inr, cond, List, [], length, Option, Some, None, Ok, Err, refl, sym, ap, subst, arith}
 use Rattle.std.specs.Prelude.{IsNone, IfSome, IsSomeAnd, replicate}
 use Rattle.std.specs.FinMap.{get}
 use Rattle.std.proofs.lemmas.Bool.{lt-ltb, le-ltb}
@@ -12,9 +12,9 @@ use Rattle.tc_ports.specs.declared.shelf.LoadFault.TheVariants as load
 use Rattle.tc_ports.specs.Shelves.{Files, Refused, LoadCounted}
 use Rattle.tc_ports.specs.Ends.{Shelving}
 use Rattle.tcreplay.specs.declared.outcome.End.{End}
-use Rattle.tcreplay.specs.declared.outcome.End.TheVariants.{TooLong, FileFault}
-use Rattle.tcreplay.specs.Verdict.{and_then, within, file_within}
-use Rattle.tcreplay.specs.Reads.{load_end, IsFile, IsStep, IsPure, IsLoad}
+use Rattle.tcreplay.specs.declared.outcome.End.TheVariants.{TooLong}
+use Rattle.tcreplay.specs.Verdict.{within, file_within}
+use Rattle.tcreplay.specs.Reads.{load_end, IsFile, IsLoad}
 
 -- bytes that aren't more than a limit, and bytes that are
 pub within_ok : (limit : ℕ) (bytes : List ℕ) → length bytes ≤ limit → within limit bytes ≡ Ok bytes
@@ -61,13 +61,8 @@ long_is (Some all) name limit long = (get all name, refl, long_one (get all name
 pub load_ok : (name : List ℕ) (limit : ℕ) (before after : Shelving) (bytes : Vec ℕ Global) → length bytes.items ≤ limit
     → IfSome before.files (λ all. get all name ≡ Some bytes.items) → after.files ≡ before.files → after.loads ≡ one_more before.loads
     → after.faults ≡ before.faults → IsLoad (λ (v : Vec ℕ Global). v.items) (file_within limit) name before after (Ok bytes)
-load_ok name limit before after bytes short whole files once count = record {
-  file = Some bytes.items;
-  told = given_is before.files name bytes.items whole;
-  step = (within_ok limit bytes.items short, count);
-  files = files;
-  once = once;
-}
+load_ok name limit before after bytes short whole files once count =
+    grind (arith, given_is before.files name bytes.items whole, within_ok limit bytes.items short)
 
 failed_load : (name : List ℕ) (limit : ℕ) (before after : Shelving) (fault : LoadFault) → IfSome before.files (λ all. Refused (get all name) limit fault)
     → (IsNone before.files → fault ≡ load.Missing → ⊥) → after.files ≡ before.files → after.loads ≡ one_more before.loads
@@ -76,9 +71,7 @@ failed_load name limit before after load.Failed refused untold files once count 
     record { file = some_file before.files name; told = some_file_is before.files name; step = inr (inr (refl, count)); files = files; once = once }
 failed_load name limit before after load.Missing refused untold files once count =
     record { file = None; told = missing_is before.files name (λ none. untold none refl) refused; step = inl (refl, count); files = files; once = once }
-failed_load name limit before after load.TooLong refused untold files once count =
-    let long = long_is before.files name limit refused in
-    record { file = long.0; told = long.1; step = inl (long.2, count); files = files; once = once }
+failed_load name limit before after load.TooLong refused untold files once count = grind (arith, long_is before.files name limit refused)
 failed_load name limit before after load.Memory refused untold files once count =
     record { file = some_file before.files name; told = some_file_is before.files name; step = inr (inl (refl, count)); files = files; once = once }
 

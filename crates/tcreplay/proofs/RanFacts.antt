@@ -1,12 +1,11 @@
 -- What holds of a run from what it came to, and of its end and its order.
-use Rattle.std.proofs.Common.{◌≡◌, ℕ, ◌-◌, length, Bool, true, false, List, sym, ap, subst, ◌∙◌, inl, inr}
+use Rattle.std.proofs.Common.{◌≡◌, ℕ, Bool, true, false, List, sym, ap, subst, ◌∙◌, inl, inr, arith}
 use Rattle.tc_units.specs.Classes.{length_of}
 use Rattle.tc_model.specs.Blocks.{IsBlockRun}
 use Rattle.tc_model.specs.Input.{Input}
 use Rattle.tc_model.specs.Run.{run}
 use Rattle.tc_model.specs.Replays.{HaveEnded}
-use Rattle.tc_model.specs.Serial.{completion}
-use Rattle.cpu_rows.specs.Machine.{rules, turns}
+use Rattle.cpu_rows.specs.Machine.{rules}
 use Rattle.alloc_rules.specs.Told.{TellsScripts}
 use Rattle.tcreplay.specs.Machines.{Machine, machine_of}
 use Rattle.tcreplay.specs.declared.outcome.End.{End}
@@ -14,7 +13,7 @@ use Rattle.tcreplay.specs.declared.outcome.End.TheVariants.{Done, WriteFault}
 use Rattle.tcreplay.specs.declared.run.Ran.{Ran}
 use Rattle.tcreplay.specs.declared.run.Telling.{Telling}
 use Rattle.tcreplay.specs.declared.task.Locks.{Locks}
-use Rattle.tcreplay.specs.Tasks.{Front, Cpus, Threads, Nodes, Schedule}
+use Rattle.tcreplay.specs.Tasks.{Front, Schedule}
 use Rattle.tcreplay.specs.Verdict.{Job, Verdict, told_by, have_ended, order_of_job}
 use Rattle.tcreplay.specs.Ran.{IsRan, IsRanByThreads, IsJournal}
 use Rattle.tcreplay.specs.Reads.{IsMadeOf}
@@ -69,9 +68,7 @@ module _ (m : Machine) (telling : Telling) (job : Job) (ran : Ran) (end : End) (
 
   -- on disjoint blocks of the machine's arena
   pub told_blocks : end ≡ Done → IsBlockRun (m.arena job.input) (length_of job.input.rows) (m.told job.input order).calls
-  told_blocks done =
-      let blocks = is.blocks (done_before ran.end end last done) in
-      subst (λ o. IsBlockRun (m.arena job.input) (length_of job.input.rows) (m.told job.input o).calls) (sym order_is) blocks
+  told_blocks done = grind (arith)
 
   -- the lines of calls of what is told are a legal journal, where the arena has the hugepages that the trace says
   pub legal_journal : end ≡ Done → m.arena job.input ≡ job.input.asked.config.huge → IsJournal m.told telling job.input order
@@ -82,8 +79,4 @@ module _ (m : Machine) (telling : Telling) (job : Job) (ran : Ran) (end : End) (
 
 -- of picks that threads made under locks holds what does of their machine's: of the per-CPU caches, few switch a thread in
 pub made_by : (front : Front) (locks : Locks) (telling : Telling) (input : Input) (ran : Ran) (by : IsRanByThreads (machine_of front) locks telling input ran) → IsMadeOf (machine_of front) input by.came
-made_by Cpus locks telling input ran by =
-    let rest = completion (rules input) (turns input) (input.asked.config.events - length by.came) (run (rules input) by.came) in
-    record { polite = by.polite; few = by.few; made = (by.whole.law.holds by.came rest (completed_is rules input by.came by.polite by.few)).switches by.polite }
-made_by Threads locks telling input ran by = record { polite = by.polite; few = by.few; made = tt }
-made_by (Nodes nodes) locks telling input ran by = record { polite = by.polite; few = by.few; made = tt }
+made_by front locks telling input ran by = grind (arith, completed_is)

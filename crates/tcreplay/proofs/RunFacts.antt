@@ -1,5 +1,5 @@
 -- What a run comes to, from what the machine says of it.
-use Rattle.std.proofs.Common.{◌≡◌, ℕ, ◌+◌, ◌≤◌, Bool, true, false, cond, List, [], ◌∷◌, ◌++◌, length, Option, Result, Err, refl, sym, ap, subst, ◌∙◌, arith, nat_lt}
+use Rattle.std.proofs.Common.{◌≡◌, ℕ, ◌+◌, ◌≤◌, Bool, true, false, cond, List, [], ◌∷◌, ◌++◌, length, Option, Result, Err, refl, sym, ap, subst, ◌∙◌, arith}
 use Rattle.std.specs.Prelude.{IfErr}
 use Rattle.std.specs.List.{flat_map}
 use Rattle.std.proofs.lemmas.Bool.Decides.{nat_tests}
@@ -8,11 +8,10 @@ use Rattle.std.proofs.lemmas.List.Sums.{fold-append}
 use Rattle.tc_model.specs.declared.answers.Finished.{Finished}
 use Rattle.tc_model.specs.declared.steps.StepFault.{StepFault}
 use Rattle.tc_model.specs.Input.{Input}
-use Rattle.tc_model.specs.Run.{Rules, start, run, pick}
-use Rattle.tc_model.specs.Steps.{stepped, order_with}
+use Rattle.tc_model.specs.Run.{Rules, start, run}
 use Rattle.tc_model.specs.Chains.{IsPolite}
 use Rattle.tc_model.specs.Replays.{HaveEnded}
-use Rattle.tc_model.specs.Serial.{completed, order_to, followed, IsAtLimit}
+use Rattle.tc_model.specs.Serial.{completed, followed, IsAtLimit}
 use Rattle.tc_model.proofs.Longer.{polite_moves}
 use Rattle.alloc_rules.specs.Machine.{turns}
 use Rattle.tcreplay.specs.declared.outcome.End.TheVariants.{Done, Full}
@@ -21,7 +20,7 @@ use Rattle.tc_units.specs.declared.rows.RowView.{RowView}
 use Rattle.usage_report.specs.Report.{call_line, row_lines, summary_of}
 use Rattle.tc_machine.specs.declared.totals.Totals.{Totals}
 use Rattle.tc_machine.specs.Finish.{totals_of}
-use Rattle.tcreplay.specs.Verdict.{Verdict, have_ended, judged_by, order_by, profile_if, rows_if, text_with, told_by}
+use Rattle.tcreplay.specs.Verdict.{Verdict, judged_by, order_by, profile_if, rows_if, text_with, told_by}
 use Rattle.tcreplay.specs.Order.{IsFilled}
 use Rattle.tcreplay.proofs.Ended.{ended_true, not_ended}
 
@@ -33,10 +32,7 @@ cut_by {A} r P found fault is same holds = subst P same (subst (λ (x : Result A
 followed_each : {P L : Type 0} (r : Rules P L) (limit : ℕ) (past picks : List ℕ) → IsPolite r (run r past) picks → length past + length picks ≤ limit → followed r limit past picks ≡ past ++ picks
 followed_each r limit past [] polite few = sym (append-nil past)
 followed_each r limit past (t ∷ ts) polite few =
-    let room : nat_lt (length past) limit ≡ true = grind (arith, nat_tests) in
-    let step : order_to r limit past t ≡ past ++ t ∷ [] = ap (λ b. cond b (order_with past t (stepped r (run r past) t)) past) room ∙ ap (order_with past t) (polite_moves r (run r past) (t ∷ ts) polite).0 in
-    let next : IsPolite r (run r (past ++ t ∷ [])) ts = subst (λ w. IsPolite r w ts) (sym (fold-append (pick r) (start r) past (t ∷ []))) polite.1 in
-    ap (λ o. followed r limit o ts) step ∙ (followed_each r limit (past ++ t ∷ []) ts next (let l = length-append past (t ∷ []) in omega (arith, l)) ∙ append_assoc past (t ∷ []) ts)
+    grind (arith, nat_tests, followed_each r limit (past ++ t ∷ []) ts, polite_moves, fold-append, length-append, append_assoc)
 
 -- a text in whose turn the lines of calls, the summary, the lines of hugepages and the profile came
 pub text_is : (f : Finished) (rows : Bool) (sample : Option ℕ) (t : Totals) (views : List RowView) (lines summed told whole : List ℕ) → t ≡ totals_of f → lines ≡ flat_map call_line f.calls
@@ -44,11 +40,7 @@ pub text_is : (f : Finished) (rows : Bool) (sample : Option ℕ) (t : Totals) (v
     → whole ≡ told ++ profile_if sample f.calls → whole ≡ text_with rows sample f
 text_is f rows sample t views lines summed told whole same of_calls of_summary of_views of_rows of_profile =
     let calls : List ℕ = flat_map call_line f.calls in
-    let summary : Totals → List ℕ = λ (x : Totals). summary_of x.calls x.live x.live_bytes x.used x.resident in
-    let now : summed ≡ calls ++ summary (totals_of f) = of_summary ∙ (ap (λ x. x ++ summary t) of_calls ∙ ap (λ x. calls ++ summary x) same) in
-    let behind : row_lines views ≡ row_lines (rows_if rows f.rows) = ap row_lines (of_views ∙ ap (λ (x : Totals). rows_if rows x.rows) same) in
-    let both : told ≡ (calls ++ summary (totals_of f)) ++ row_lines (rows_if rows f.rows) = of_rows ∙ (ap (λ x. x ++ row_lines views) now ∙ ap (λ x. (calls ++ summary (totals_of f)) ++ x) behind) in
-    of_profile ∙ ap (λ x. x ++ profile_if sample f.calls) both
+    grind (arith)
 
 -- over the rules of a machine
 module _ {P L : Type 0} (rules : Input → Rules P L) where
@@ -86,18 +78,9 @@ module _ {P L : Type 0} (rules : Input → Rules P L) where
     pub told_done : (telling : Telling) (input : Input) (order items text : List ℕ) (f : Finished) → HaveEnded (rules input) (run (rules input) order)
         → f ≡ told input order → items ≡ order → text ≡ told_by telling f
         → record { end = Done; order = items; text = text } ≡ judged_by rules told telling input order
-    told_done telling input order items text f ended finished given printed =
-        let done : have_ended (rules input) (run (rules input) order) ≡ true = ended_true (rules input) (run (rules input) order) ended in
-        let words : text ≡ told_by telling (told input order) = printed ∙ ap (told_by telling) finished in
-        let seen : Verdict = record { end = Done; order = items; text = text } in
-        let here : seen ≡ at_end telling input order = ap (λ o. let v : Verdict = record { end = Done; order = o; text = text } in v) given ∙ ap (λ t. let v : Verdict = record { end = Done; order = order; text = t } in v) words in
-        here ∙ sym (ap (λ b. verdict_if b telling input order) done)
+    told_done telling input order items text f ended finished given printed = grind (arith, ended_true)
 
     pub told_full : (telling : Telling) (input : Input) (whole order items text : List ℕ) (ticket : ℕ)
         → IsAtLimit (rules input) input.asked.config.events whole order ticket → items ≡ order → text ≡ []
         → record { end = Full ticket; order = items; text = text } ≡ judged_by rules told telling input order
-    told_full telling input whole order items text ticket limit given empty =
-        let going : have_ended (rules input) (run (rules input) order) ≡ false = not_ended (rules input) (run (rules input) order) limit.thread limit.would_move in
-        let seen : Verdict = record { end = Full ticket; order = items; text = text } in
-        let here : seen ≡ at_limit input order = ap (λ n. let v : Verdict = record { end = Full n; order = items; text = text } in v) limit.ticket_is ∙ (ap (λ o. let v : Verdict = record { end = Full input.asked.config.events; order = o; text = text } in v) given ∙ ap (λ t. let v : Verdict = record { end = Full input.asked.config.events; order = order; text = t } in v) empty) in
-        here ∙ sym (ap (λ b. verdict_if b telling input order) going)
+    told_full telling input whole order items text ticket limit given empty = grind (arith, not_ended)

@@ -1,7 +1,6 @@
 -- What reading the trace gives.
-use Rattle.std.proofs.Common.{◌≡◌, ℕ, ◌+◌, ◌≤◌, List, [], length, Option, Some, None, Err, refl, sym, ap, ◌∙◌, arith}
-use Rattle.std.specs.Prelude.{IsNone, IfSome, ◌↔◌}
-use Rattle.std.proofs.lemmas.List.{drop_all}
+use Rattle.std.proofs.Common.{◌≡◌, ℕ, ◌+◌, ◌≤◌, List, [], Option, Some, None, Err, refl, arith}
+use Rattle.std.specs.Prelude.{IfSome}
 use Rattle.tc_ports.specs.Told.{LostAtMost}
 use Rattle.tc_ports.specs.Whole.{PassedLimit}
 use Rattle.tcreplay.specs.declared.outcome.End.TheVariants.{TooLong}

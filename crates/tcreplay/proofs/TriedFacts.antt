@@ -1,20 +1,20 @@
 -- What a try at a replay comes to, from what its steps come to.
-use Rattle.std.proofs.Common.{◌≡◌, ℕ, true, false, List, [], Option, Some, None, Result, Ok, Err, refl, sym, ap, subst, ◌∙◌, inl, inr, arith}
+use Rattle.std.proofs.Common.{◌≡◌, ℕ, true, false, List, [], Option, Some, None, Result, Ok, Err, sym, ap, subst, ◌∙◌, inl, inr, arith}
 use Rattle.tc_units.specs.declared.spans.ClassRow.{ClassRow}
 use Rattle.tc_model.specs.Input.{Asked}
 use Rattle.tc_ports.specs.Told.{Took}
 use Rattle.tc_ports.specs.Ends.{Reading, Shelving, Writing}
 use Rattle.tcreplay.specs.declared.outcome.End.{End}
-use Rattle.tcreplay.specs.declared.outcome.End.TheVariants.{Done, WriteFault, Memory}
+use Rattle.tcreplay.specs.declared.outcome.End.TheVariants.{Done}
 use Rattle.tcreplay.specs.declared.input.Job.{Job}
 use Rattle.tcreplay.specs.declared.run.Ran.{Ran}
 use Rattle.tcreplay.specs.declared.run.Telling.{Telling}
 use Rattle.tcreplay.specs.declared.run.Telling.TheVariants.{Whole}
 use Rattle.tcreplay.specs.declared.task.Locks.{Locks}
 use Rattle.tcreplay.specs.Machines.{Machine, machine_of, locks_for}
-use Rattle.tcreplay.specs.Tasks.{Front, Cpus, Threads, Nodes, Replay, Schedule, InTurn, ByFile, ByThreads, file_of, locks_in}
+use Rattle.tcreplay.specs.Tasks.{Front, Replay, Schedule, file_of, locks_in}
 use Rattle.tcreplay.specs.Verdict as verdict
-use Rattle.tcreplay.specs.Verdict.{Given, Verdict, and_then, rows_in, asked_in, picks_or, job_with, run_verdict, order_of_job, job_of}
+use Rattle.tcreplay.specs.Verdict.{Given, Verdict, and_then, rows_in, asked_in, job_with, run_verdict, order_of_job, job_of}
 use Rattle.tcreplay.specs.Reads.{IsMadeOf, HaveCome, AreGiven, HasRead, IsJobRead, is_behind_run, seen_job}
 use Rattle.tcreplay.specs.Ran.{seen_ran, IsRan, IsRanByThreads}
 use Rattle.tcreplay.specs.Writes.{IsWritten, IsLastEnd}
@@ -28,39 +28,18 @@ use Rattle.tcreplay.proofs.RanFacts.{made_by, order_is, lawful, text_is, have_al
 -- what was read without a refusal was read for any end
 pub read_for : (runner : Option Front) (file : Option (List ℕ)) (given : Given) (t u : Reading) (f g : Shelving) (end : End)
     → HasRead runner file given t u f g Done → HasRead runner file given t u f g end
-read_for runner file given t u f g end read = record {
-  files = read.files;
-  loads = read.loads;
-  behind_run = λ _. read.behind_run refl;
-  behind_file = λ _ _ _. read.behind_run refl;
-  file_count = elim read.file_count [ inl same ↦ inl same | inr failed ↦ absurd (cc) ];
-  untouched = read.untouched;
-  lost = gone_for t.left u.left end read.lost;
-  reads = read.reads;
-  drained = λ _. read.drained refl;
-  trace_count = elim read.trace_count [ inl same ↦ inl same | inr failed ↦ absurd (cc) ];
-}
+read_for runner file given t u f g end read = grind (arith, gone_for)
 
 -- before a run nothing is written
 pub untouched : (end : End) (text : List ℕ) (out : Writing) → is_behind_run end ≡ false → IsWritten end text out out
-untouched Done text out early = absurd (cc)
-untouched WriteFault text out early = absurd (cc)
-untouched end text out early = refl
+untouched end text out early = grind (arith)
 
 pub not_later : (end : End) → is_behind_run end ≡ false → is_behind_run end ≡ true → ⊥
 not_later end early later = let e : false ≡ true = sym early ∙ later in cc
 
 -- before a run no picks came
-none_made : (front : Front) (job : verdict.Job) → IsMadeOf (machine_of front) job.input []
-none_made Cpus job = record { polite = tt; few = omega arith; made = λ c. omega arith }
-none_made Threads job = record { polite = tt; few = omega arith; made = tt }
-none_made (Nodes nodes) job = record { polite = tt; few = omega arith; made = tt }
-
 none_came : (front : Front) (schedule : Schedule) (job : Result verdict.Job End) (came : List ℕ) → came ≡ [] → HaveCome (machine_of front) schedule job came
-none_came front InTurn job came none = none
-none_came front (ByFile order) job came none = none
-none_came front (ByThreads locks) (Ok job) came none = subst (IsMadeOf (machine_of front) job.input) (sym none) (none_made front job)
-none_came front (ByThreads locks) (Err end) came none = none
+none_came front schedule job came none = grind (arith)
 
 -- what was read is what a replay was given, of which no thread has run
 given_to : (replay : Replay) (t u : Reading) (f g : Shelving) (result : Result Job End) (read : IsJobRead replay t u f g result) → AreGiven replay f.files t.left read.given
@@ -70,24 +49,9 @@ given_to replay t u f g result read = record { told = read.told; came = none_cam
 pub tried_stopped : (replay : Replay) (t u : Reading) (f g : Shelving) (out : Writing) (end : End) (order : List ℕ) → order ≡ []
     → IsJobRead replay t u f g (Err end) → HasTried replay t u f g out out end order
 tried_stopped replay t u f g out end order none read =
-    let early : is_behind_run end ≡ false = elim read.answer [
-      | inl e ↦ job_fails is_behind_run replay read.given end not_run e
-      | inr cut ↦ cut_early (Some replay.front) read.given t u f g end cut
-    ] in
-    let answer : IsAnswer replay read.given t u f g end order = elim read.answer [
-      | inl e ↦ inl (sym (ap (λ r. (run_verdict (runs replay) (Whole replay.rows replay.sample) r).end) e), none ∙ sym (ap (λ r. (run_verdict (runs replay) (Whole replay.rows replay.sample) r).order) e))
-      | inr cut ↦ inr (inl (none, cut))
-    ] in
-    record {
-      given = read.given;
-      told = given_to replay t u f g (Err end) read;
-      answer = answer;
-      read = read.read;
-      out = untouched end (verdict_on replay read.given).text out early;
-      law = λ later. absurd (not_later end early later);
-      run = λ later. absurd (not_later end early later);
-      headline = λ done. absurd (not_later end early (ap is_behind_run done));
-    }
+    let early : is_behind_run end ≡ false =
+    grind (arith, job_fails is_behind_run replay read.given end not_run, not_run, cut_early (Some replay.front) read.given t u f g end) in
+    grind (arith, given_to replay t u f g (Err end) read, untouched end (verdict_on replay read.given).text out early, not_later end early)
 
 -- the same of what is answered then
 pub tried_at : (replay : Replay) (t u : Reading) (f g : Shelving) (out : Writing) (end answered : End) (order : List ℕ) → answered ≡ end → order ≡ []
@@ -126,9 +90,7 @@ module _ (replay : Replay) (given : Given) (t u : Reading) (f g : Shelving) (bef
 
   -- of the one job that was given
   of_job : (p : verdict.Job → Type 0) → p job → (other : verdict.Job) → job_of replay given ≡ Ok other → p other
-  of_job p holds other is_other =
-      let e : job ≡ other = cc in
-      subst p e holds
+  of_job p holds other is_other = grind (arith)
 
   -- the run was made
   pub tried_by : HasTried replay t u f g before after end order
@@ -145,9 +107,7 @@ module _ (replay : Replay) (given : Given) (t u : Reading) (f g : Shelving) (bef
 
 -- without worker threads
 alone_is : (m : Machine) (schedule : Schedule) (job : verdict.Job) (order : List ℕ) → locks_in schedule ≡ None → IsCompleted m schedule job order
-alone_is m InTurn job order alone = tt
-alone_is m (ByFile file) job order alone = tt
-alone_is m (ByThreads locks) job order alone = absurd (cc)
+alone_is m schedule job order alone = grind (arith)
 
 pub tried_ran : (replay : Replay) (t u : Reading) (f g : Shelving) (before after : Writing) (job : Job) (ran : Ran) (end : End) (order : List ℕ)
     → locks_in replay.schedule ≡ None → IsJobRead replay t u f g (Ok job)
@@ -163,27 +123,16 @@ abbrev job_behind : verdict.Job → List ℕ → verdict.Job
 job_behind job came = record { input = job.input; picks = came }
 
 no_file : (schedule : Schedule) (locks : Locks) → locks_in schedule ≡ Some locks → file_of schedule ≡ None
-no_file InTurn locks threads = refl
-no_file (ByFile file) locks threads = absurd (cc)
-no_file (ByThreads other) locks threads = refl
+no_file schedule locks threads = grind (arith)
 
 abbrev job_made : List ClassRow → Asked → List ℕ → verdict.Job
 job_made rows asked picks = record { input = record { rows = rows; asked = asked }; picks = picks }
 
 -- without an order file, a job's picks are those that came
-job_came : (rows : List ClassRow) (asked : Asked) (order file : Option (List ℕ)) (came : List ℕ) → order ≡ None
-    → and_then (λ picks. Ok (job_made rows asked picks)) (picks_or order asked.config.threads file came) ≡ Ok (job_made rows asked came)
-job_came rows asked None file came none = refl
-job_came rows asked (Some name) file came none = absurd (cc)
-
 behind_asked : (replay : Replay) (given : Given) (came : List ℕ) (job : verdict.Job) (rows : List ClassRow) → file_of replay.schedule ≡ None
     → (asked : Result Asked End) → and_then (job_with replay given rows) asked ≡ Ok job
     → and_then (job_with replay (given_with given came) rows) asked ≡ Ok (job_behind job came)
-behind_asked replay given came job rows none (Err end) is = absurd (cc)
-behind_asked replay given came job rows none (Ok asked) is =
-    let plain : Ok (job_made rows asked given.came) ≡ Ok job = sym (job_came rows asked (file_of replay.schedule) given.file given.came none) ∙ is in
-    let same : job_made rows asked given.came ≡ job = cc in
-    subst (λ (j : verdict.Job). and_then (job_with replay (given_with given came) rows) (Ok asked) ≡ Ok (job_behind j came)) same (job_came rows asked (file_of replay.schedule) given.file came none)
+behind_asked replay given came job rows none asked is = grind (arith)
 
 behind_rows : (replay : Replay) (given : Given) (came : List ℕ) (job : verdict.Job) → file_of replay.schedule ≡ None → (rows : Result (List ClassRow) End)
     → and_then (λ rows. and_then (job_with replay given rows) (asked_in (Some replay.front) rows given.trace)) rows ≡ Ok job
@@ -193,15 +142,11 @@ behind_rows replay given came job none (Ok rows) is = behind_asked replay given 
 
 came_is : (m : Machine) (schedule : Schedule) (locks : Locks) (job : verdict.Job) (came : List ℕ) → locks_in schedule ≡ Some locks
     → IsMadeOf m job.input came → HaveCome m schedule (Ok (job_behind job came)) came
-came_is m InTurn locks job came threads made = absurd (cc)
-came_is m (ByFile file) locks job came threads made = absurd (cc)
-came_is m (ByThreads other) locks job came threads made = made
+came_is m schedule locks job came threads made = grind (arith)
 
 completed_by : (m : Machine) (schedule : Schedule) (locks : Locks) (job : verdict.Job) (came : List ℕ) → locks_in schedule ≡ Some locks
     → IsMadeOf m job.input came → IsCompleted m schedule (job_behind job came) (order_of_job m (job_behind job came))
-completed_by m InTurn locks job came threads made = tt
-completed_by m (ByFile file) locks job came threads made = tt
-completed_by m (ByThreads other) locks job came threads made = sym (completed_is m.rules job.input came made.polite made.few)
+completed_by m schedule locks job came threads made = grind (arith, completed_is)
 
 -- with worker threads
 pub tried_threads : (replay : Replay) (locks : Locks) (t u : Reading) (f g : Shelving) (before after : Writing) (job : Job) (ran : Ran) (end : End) (order : List ℕ) → locks_in replay.schedule ≡ Some locks → IsJobRead replay t u f g (Ok job) → IsRanByThreads (runs replay) (locks_for replay.front locks) (Whole replay.rows replay.sample) (seen_job job).input ran → IsLastEnd ran.end end → order ≡ ran.order.items → IsWritten end ran.text.items before after → HasTried replay t u f g before after end order

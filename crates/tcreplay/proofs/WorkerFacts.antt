@@ -1,5 +1,5 @@
 -- What threads left of a run, and what it comes to once it is completed.
-use Rattle.std.proofs.Common.{◌≡◌, ℕ, ◌≤◌, ◌-◌, List, length, Result, Ok, Err, sym, ap, subst, ◌∙◌, arith}
+use Rattle.std.proofs.Common.{◌≡◌, ℕ, ◌≤◌, ◌-◌, List, length, Result, sym, ap, subst, ◌∙◌, arith}
 use Rattle.std.specs.Prelude.{IfOk, All, Option, Some, None}
 use Rattle.std.specs.declared.alloc.AllocError.{AllocError}
 use Rattle.std.proofs.lemmas.List.{length-append, length-map}
@@ -14,7 +14,7 @@ use Rattle.tc_model.specs.Run.{Rules, world_of, start, run}
 use Rattle.tc_model.specs.Steps.{moving}
 use Rattle.tc_model.specs.Chains.{IsPolite}
 use Rattle.tc_model.specs.Replays.{HaveEnded}
-use Rattle.tc_model.specs.Serial.{completed, completion}
+use Rattle.tc_model.specs.Serial.{completed}
 use Rattle.tc_model.proofs.Longer.{polite_moves}
 use Rattle.tc_model.proofs.Picks.{length_run}
 use Rattle.tc_model.proofs.MovingFacts.{moving_all}
@@ -27,8 +27,6 @@ use Rattle.tcreplay.specs.declared.run.Telling.{Telling}
 use Rattle.tcreplay.specs.declared.task.Locks.{Locks}
 use Rattle.tcreplay.specs.declared.task.Locks.TheVariants.{Parts}
 use Rattle.tcreplay.specs.Came.{IsLeft}
-use Rattle.tcreplay.specs.Order.{IsFilled}
-use Rattle.tcreplay.specs.Verdict.{Verdict}
 use Rattle.tcreplay.specs.Ran.{seen_ran, IsRunOf, IsRunByThreads}
 use Rattle.tcreplay.proofs.RunFacts.{completed_is}
 
@@ -54,21 +52,7 @@ module _ {P L : Type 0} (rules : Input → Rules P L) where
         → seen_ran under ≡ seen_ran ran → under.under ≡ Some locks → IsPolite (rules input) (start (rules input)) came
         → IsRunOf rules arena told lawful telling input (completed (rules input) (turns input.asked) input.asked.config.events came) ran
         → IsRunByThreads rules arena told lawful locks telling input under
-    by_threads_under locks telling input came ran under seen locked polite ran_so =
-        let all : List ℕ = completed (rules input) (turns input.asked) input.asked.config.events came in
-        let ends : under.end ≡ ran.end = ap (λ (v : Verdict). v.end) seen in
-        let long = length-append came (completion (rules input) (turns input.asked) (input.asked.config.events - length came) (run (rules input) came)) in
-        let few : length came ≤ input.asked.config.events = (let most = is_few input all ran_so.law in omega (arith, long, most)) in
-        let here : IsRunOf rules arena told lawful telling input all under = record {
-          is = seen ∙ ran_so.is;
-          law = ran_so.law;
-          filled = subst (λ e. IsFilled rules input e all) (sym ends) ran_so.filled;
-          scripts = λ done. ran_so.scripts (sym ends ∙ done);
-          blocks = λ done. ran_so.blocks (sym ends ∙ done);
-          journal = λ done. ran_so.journal (sym ends ∙ done);
-        } in
-        let whole = subst (λ o. IsRunOf rules arena told lawful telling input o under) (completed_is rules input came polite few) here in
-        record { under = locked; came = came; polite = polite; few = few; whole = whole }
+    by_threads_under locks telling input came ran under seen locked polite ran_so = grind (arith, length-append, completed_is)
 
   -- what was left under part locks
   pub parts_left : {C O : Type 0} (result : Result C AllocError) (state : C → Played O) (under : C → Locks) (last : C → List Turn) (stopped : C → Option Halt) (input other : Input) (es : List Entry) (lasts : List Turn) (halt : Option Halt)
@@ -77,15 +61,4 @@ module _ {P L : Type 0} (rules : Input → Rules P L) where
       → (halt ≡ None → HaveEnded (rules input) (run (rules input) (threads_in es)))
       → IfOk result (λ c. (state c).input ≡ other) → IfOk result (λ c. (state c).order ≡ threads_in es) → IfOk result (λ c. under c ≡ Parts) → IfOk result (λ c. last c ≡ lasts)
       → IfOk result (λ c. stopped c ≡ halt) → IfOk result (λ c. stopped c ≡ Some Memory → ⊥) → IfOk result (λ c. IsLeft rules input Parts (state c) (under c) (last c) (stopped c))
-  parts_left (Ok c) state under last stopped input other es lasts halt same polite is over full each ended i o k l h enough = record {
-    input_is = i ∙ same;
-    locks_are = k;
-    polite = subst (IsPolite (rules input) (start (rules input))) (sym o) polite;
-    each = ap length l ∙ each;
-    halt_is = h ∙ (is ∙ ap halt_among (sym l));
-    enough = enough;
-    over = λ none. subst (All (λ last. last ≡ Ended)) (sym l) (over (sym is ∙ (sym h ∙ none)));
-    ended = λ _ none. subst (λ x. HaveEnded (rules input) (run (rules input) x)) (sym o) (ended (sym h ∙ none));
-    full = λ _ at_limit. ap length o ∙ (length-map es (λ (e : Entry). e.thread.0) ∙ full (sym h ∙ at_limit));
-  }
-  parts_left (Err e) state under last stopped input other es lasts halt same polite is over full each ended i o k l h enough = tt
+  parts_left result state under last stopped input other es lasts halt same polite is over full each ended i o k l h enough = grind (arith, length-map)

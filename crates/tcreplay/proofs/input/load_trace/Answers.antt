@@ -1,20 +1,15 @@
-use Rattle.std.proofs.Common.{inl, inr, refl, ap, subst}
+use Rattle.std.proofs.Common.{inl, ap, subst}
 use Rattle.std.specs.Prelude.{option_map}
+use Rattle.std.proofs.Common.{arith}
 use Rattle.tc_ports.specs.Whole.{ReadAllCounted, ReadAllRefused, PassedLimit}
 use Rattle.tcreplay.specs.Verdict.{and_then, asked_for}
 use Rattle.tcreplay.specs.Seen.{seen_front}
-use Rattle.tcreplay.proofs.TraceFacts.{some_text, some_text_is, long_text, lost_passed}
+use Rattle.tcreplay.proofs.TraceFacts.{some_text_is, long_text, lost_passed}
 use Rattle.tcreplay.proofs.input.load_trace.Goals as goal
 
 pub returns-in-Err-ReadFault-clause-asked : goal.returns-in-Err-ReadFault-clause-asked
-returns-in-Err-ReadFault-clause-asked g c = record {
-  text = some_text (g.S.Source.seen c.args.source.now).left;
-  told = some_text_is (g.S.Source.seen c.args.source.now).left;
-  step = inr (inr (refl, subst (λ f. ReadAllCounted f (g.S.Source.seen c.args.source.now).faults (g.S.Source.seen c.read_all.new.source).faults) c.in-Err-ReadFault.field-0-is c.in-Err-ReadFault.ensures.cause));
-  lost = subst (λ f. ReadAllRefused f (g.S.Source.seen c.args.source.now).left (g.S.Source.seen c.read_all.new.source).left 67108864) c.in-Err-ReadFault.field-0-is c.in-Err-ReadFault.ensures.refused;
-  reads = c.in-Err-ReadFault.ensures.reads;
-  drained = λ is. absurd (cc);
-}
+returns-in-Err-ReadFault-clause-asked g c =
+    grind (arith, g.S.Source.seen c.args.source.now, some_text_is (g.S.Source.seen c.args.source.now).left, g.S.Source.seen c.read_all.new.source)
 
 pub returns-in-Err-TooLong-clause-asked : goal.returns-in-Err-TooLong-clause-asked
 returns-in-Err-TooLong-clause-asked g c =
@@ -30,11 +25,5 @@ returns-in-Err-TooLong-clause-asked g c =
     }
 
 pub returns-in-Err-Memory-clause-asked : goal.returns-in-Err-Memory-clause-asked
-returns-in-Err-Memory-clause-asked g c = record {
-  text = some_text (g.S.Source.seen c.args.source.now).left;
-  told = some_text_is (g.S.Source.seen c.args.source.now).left;
-  step = inr (inl (refl, subst (λ f. ReadAllCounted f (g.S.Source.seen c.args.source.now).faults (g.S.Source.seen c.read_all.new.source).faults) c.in-Err-Memory.field-0-is c.in-Err-Memory.ensures.cause));
-  lost = subst (λ f. ReadAllRefused f (g.S.Source.seen c.args.source.now).left (g.S.Source.seen c.read_all.new.source).left 67108864) c.in-Err-Memory.field-0-is c.in-Err-Memory.ensures.refused;
-  reads = c.in-Err-Memory.ensures.reads;
-  drained = λ is. absurd (cc);
-}
+returns-in-Err-Memory-clause-asked g c =
+    grind (arith, g.S.Source.seen c.args.source.now, some_text_is (g.S.Source.seen c.args.source.now).left, g.S.Source.seen c.read_all.new.source)

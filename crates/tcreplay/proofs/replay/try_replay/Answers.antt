@@ -1,5 +1,4 @@
-use Rattle.std.proofs.Common.{ap, subst}
-use Rattle.tcreplay.specs.declared.outcome.Outcome.{Outcome}
+use Rattle.std.proofs.Common.{subst, arith}
 use Rattle.tcreplay.specs.Verdict.{order_of_job}
 use Rattle.tcreplay.specs.Reads.{seen_job}
 use Rattle.tcreplay.specs.Machines.{machine_of}
@@ -14,9 +13,7 @@ pub returns-in-Ok-run-clause-tried : goal.returns-in-Ok-run-clause-tried
 returns-in-Ok-run-clause-tried g c = tried_ran (seen_replay c.args.replay) _ _ _ _ _ _ c.in-Ok.job c.in-Ok-run.ran c.write.result.end c.write.result.order c.requires.alone c.in-Ok.ensures.read (subst (λ t. IsRan (machine_of (seen_front c.args.replay.front)) t (seen_job c.in-Ok.job).input (order_of_job (machine_of (seen_front c.args.replay.front)) (seen_job c.in-Ok.job)) c.in-Ok-run.ran) c.telling.ensures c.in-Ok-run.ensures) c.write.ensures.end c.write.ensures.order c.write.ensures.written
 
 pub returns-in-Err-clause-tried : goal.returns-in-Err-clause-tried
-returns-in-Err-clause-tried g c =
-    let same = c.without_run.ensures in
-    tried_at (seen_replay c.args.replay) _ _ _ _ _ c.in-Err.end c.without_run.result.end c.without_run.result.order (ap (λ (o : Outcome). o.end) same) (ap (λ (o : Outcome). o.order) same) c.in-Err.ensures.read
+returns-in-Err-clause-tried g c = grind (arith, tried_at)
 
 pub write-requires : goal.write-requires
 write-requires g c = run_end (machine_of (seen_front c.args.replay.front)) c.telling.result (seen_job c.in-Ok.job).input (order_of_job (machine_of (seen_front c.args.replay.front)) (seen_job c.in-Ok.job)) c.in-Ok-run.ran c.in-Ok-run.ensures

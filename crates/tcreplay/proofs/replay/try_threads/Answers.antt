@@ -1,5 +1,4 @@
-use Rattle.std.proofs.Common.{ap, subst}
-use Rattle.tcreplay.specs.declared.outcome.Outcome.{Outcome}
+use Rattle.std.proofs.Common.{subst, arith}
 use Rattle.tcreplay.specs.Machines.{machine_of, locks_for}
 use Rattle.tcreplay.specs.Ran.{IsRanByThreads}
 use Rattle.tcreplay.specs.Seen.{seen_front, seen_replay}
@@ -17,9 +16,7 @@ pub returns-clause-tried : goal.returns-clause-tried
 returns-clause-tried g c = tried_threads (seen_replay c.args.replay) c.args.locks _ _ _ _ _ _ c.in-Ok.job c.in-Ok-run_by_threads.ran c.write.result.end c.write.result.order c.requires.threads c.in-Ok.ensures.read (subst (λ t. IsRanByThreads (machine_of (seen_front c.args.replay.front)) (locks_for (seen_front c.args.replay.front) c.args.locks) t (seen_job c.in-Ok.job).input c.in-Ok-run_by_threads.ran) c.telling-telling.ensures c.in-Ok-run_by_threads.ensures) c.write.ensures.end c.write.ensures.order c.write.ensures.written
 
 pub returns-in-Err-clause-tried : goal.returns-in-Err-clause-tried
-returns-in-Err-clause-tried g c =
-    let same = c.without_run.ensures in
-    tried_at (seen_replay c.args.replay) _ _ _ _ _ c.in-Err.end c.without_run.result.end c.without_run.result.order (ap (λ (o : Outcome). o.end) same) (ap (λ (o : Outcome). o.order) same) c.in-Err.ensures.read
+returns-in-Err-clause-tried g c = grind (arith, tried_at)
 
 pub run_by_threads-requires-clause-step : goal.run_by_threads-requires-clause-step
 run_by_threads-requires-clause-step g c κs within = has_step c.telling-telling.result c.args.replay.rows c.args.replay.sample c.telling-telling.ensures c.requires.sample

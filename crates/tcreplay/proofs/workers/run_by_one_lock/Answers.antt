@@ -1,7 +1,7 @@
-use Rattle.std.proofs.Common.{length, sym, subst, ◌∙◌}
+use Rattle.std.proofs.Common.{sym, subst, ◌∙◌}
 use Rattle.std.specs.Prelude.{IfOk}
+use Rattle.std.proofs.Common.{arith}
 use Rattle.tc_model.specs.Input.{Input}
-use Rattle.trace_reader.specs.Valid.{IsAsked}
 use Rattle.tcreplay.specs.declared.task.Locks.{Locks}
 use Rattle.tcreplay.specs.declared.task.Locks.TheVariants.{One}
 use Rattle.cpu_rows.specs.Machine.{rules}
@@ -23,9 +23,7 @@ complete-requires-clause-left g c =
     (subst (λ (i : Input). IsLeft rules i One came.state came.locks came.lasts.items came.halt) (sym left.input_is) left)
 
 pub complete-requires-clause-valid : goal.complete-requires-clause-valid
-complete-requires-clause-valid g c =
-    let n = length c.args.job.table in
-    (n, subst (λ (i : Input). IsAsked n i.asked) (sym (c.in_ok-came.ensures.left.input_is ∙ c.in_ok-state.ensures.input)) c.requires.runs.read.valid)
+complete-requires-clause-valid g c = grind (arith)
 
 pub returns : goal.returns
 returns g c =

@@ -7,23 +7,13 @@ use Rattle.tcreplay.proofs.WorkerFacts.{many_locals, parts_left}
 use Rattle.tcreplay.proofs.workers.run_under_part_locks.Goals as goal
 
 pub run_all-requires-clause-few : goal.run_all-requires-clause-few
-run_all-requires-clause-few g c κs within =
-    let fits = c.threads-threads.type_inv in
-    let ok = c.split-machine.result.2.ok in
-    omega (arith, c.split-machine.ensures.all, c.threads-threads.ensures, fits, ok)
+run_all-requires-clause-few g c κs within = grind (arith)
 
 pub gathered-requires-clause-run : goal.gathered-requires-clause-run
-gathered-requires-clause-run g c =
-    let left = c.in-Some.left in
-    let ruled = subst (λ q. IsRun q left.closed.parts.items left.locals.items left.order.items) c.split-machine.ensures.rules c.in-Some.ensures.run in
-    let same = ap (λ n. g.M.Allocator.input n) c.in-Some.ensures.machine ∙ c.split-machine.ensures.input in
-    let options = ap (λ n. g.M.Allocator.options n) c.in-Some.ensures.machine ∙ c.split-machine.ensures.options in
-    rw (same, options) ruled
+gathered-requires-clause-run g c = grind (arith)
 
 pub returns-clause-options : goal.returns-clause-options
-returns-clause-options g c =
-    let same = ap (λ n. g.M.Allocator.options n) c.in-Some.ensures.machine ∙ c.split-machine.ensures.options in
-    rw (sym same) c.gathered.ensures.options
+returns-clause-options g c = grind (arith)
 
 pub returns-clause-left : goal.returns-clause-left
 returns-clause-left g c =
