@@ -1,8 +1,7 @@
 -- Each act, at whatever part, leaves the local its shape and keeps the front-end's invariant.
-use Rattle.std.proofs.Common.{◌≡◌, ℕ, ◌+◌, ◌^◌, ◌<◌, ◌≤◌, List, [], ◌∷◌, ◌++◌, length, Option, Some, None, refl, sym, ap, ◌∙◌, subst, arith, slice_get}
-use Rattle.std.proofs.Common.{slice_set}
-use Rattle.alloc_rules.proofs.Common.{Call, length-append, Contents, Addr, Label, ThreadNo, ClassRow, SpanRef, SpanKind, Small, Large, Free, Planned, Answer}
-use Rattle.alloc_rules.proofs.Common.{Freed, SpanMap, holds, NameState, state_of, Placed, new, Regs, LOADED_ROOM, room, appended, opening, IsFetched, IsAdded}
+use Rattle.std.proofs.Common.{◌≡◌, ℕ, ◌+◌, ◌<◌, ◌≤◌, List, [], ◌∷◌, ◌++◌, length, Option, Some, None, refl, sym, ap, ◌∙◌, subst, arith, slice_get}
+use Rattle.alloc_rules.proofs.Common.{Call, length-append, Contents, Addr, Label, ThreadNo, SpanRef, SpanKind, Small, Large, Free, Planned, Answer}
+use Rattle.alloc_rules.proofs.Common.{Freed, SpanMap, holds, NameState, state_of, Placed, new, Regs, LOADED_ROOM, room, appended, opening, IsFetched}
 use Rattle.alloc_rules.proofs.Common.{fetch_moves, add_moves, give_moves, small, run_of, Asking, Freeing, Giving, Onward, Next, Step, ShardStep, HeapStep}
 use Rattle.alloc_rules.proofs.Common.{MapStep, Local, step_or, no_class, class_row, decided, goes, ends, with_regs, serves, with_freed, with_more, fetches}
 use Rattle.alloc_rules.proofs.Common.{shard_row, after_new, after_new_span, without_first_span, frees_span, heap_row, found, map_row, after_take, MayDecide}

@@ -30,7 +30,7 @@ pub use Rattle.call_steps.specs.Fronts.{AreEntries, FrontCalls, FrontRules, IsEn
 pub use Rattle.call_steps.specs.Hands.{behind, clears, comes_to, decides_free, gave, given_back, goes_onward, publishes, serves, serves_first, stocks}
 pub use Rattle.call_steps.specs.Hands.{with_freed, with_hand as to_hand, with_hand, with_regs}
 pub use Rattle.call_steps.specs.Local.{Decided, Local, class_row, closes, decided, ends, first_act, first_of_call, first_of_malloc, fresh_regs, goes}
-pub use Rattle.call_steps.specs.Local.{idle_local, next_call, regs_by, regs_of_call, regs_of_malloc, step_or, thread_no, told}
+pub use Rattle.call_steps.specs.Local.{idle_local, next_call, regs_of_malloc, step_or, thread_no, told}
 pub use Rattle.call_steps.specs.Shapes.{AreRows, BeginsWith, IsClassRow, most_slots}
 pub use Rattle.call_steps.specs.ShardActs.{fetches, shard_row, with_more}
 pub use Rattle.call_steps.specs.declared.step.HeapStep.TheVariants.{FreeSpan, GiveBack, New, NewSpan, Unback}
@@ -52,7 +52,7 @@ pub use Rattle.holdings.proofs.Sums.{name_cases, none_counts, of_all, of_run, sa
 pub use Rattle.holdings.proofs.Sums.{same_span_run, shift, starting, starting_span, sum_of_both, without_counts}
 pub use Rattle.holdings.specs.Accounts.{Account, Asks, Doing, Frees, Holds, Other, Publishes, Takes, WeighSame, asking, gets, got, in_hand, is_out, is_taken}
 pub use Rattle.holdings.specs.Accounts.{is_unpublished, loose, mentions, named_at, pending, publishing, put, puts, taking, unpublished, untaken}
-pub use Rattle.holdings.specs.Books.{Begins, Books, IsCut, IsOfClass, LiesIn, Setup, Stock, class_number, no_class, pages_of, size_of}
+pub use Rattle.holdings.specs.Books.{Begins, Books, IsCut, IsOfClass, LiesIn, Setup, Stock, class_number, no_class, size_of}
 pub use Rattle.holdings.specs.Laws.{Found, HasNothing, IsFirst, IsMapped, IsOff, IsTaken}
 pub use Rattle.holdings.specs.Moves.{AddSpan, ClearsRun, ClearsSpan, FindsObject, FindsRun, FreesObject, FreesRun, FreesSpan, GetsFirst, GetsNone, GetsObject}
 pub use Rattle.holdings.specs.Moves.{GetsRun, GetsSpan, Move, MoveObjects, MovesHand, One, Rests, Said, SaysOther, SetsRun, SetsSpan, TakesAddr}

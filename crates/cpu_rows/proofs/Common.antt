@@ -12,8 +12,8 @@ pub use Rattle.alloc_rules.proofs.Common.{without_last}
 pub use Rattle.alloc_rules.proofs.Counting.{objects_append, objects_cut, objects_last, objects_reverse}
 pub use Rattle.alloc_rules.specs.Inputs.{IsCallThere, IsMove, IsValidInput, Limits, limits_of}
 pub use Rattle.call_steps.{specs.Acts.front_yields, specs.Fronts.leaving, specs.Local.row_of, specs.Refusals.is_refusal}
-pub use Rattle.call_steps.specs.Calls.{Asks, Frees, Other, Publishes}
-pub use Rattle.call_steps.specs.Follows.{ComesWith, HasObject, MayFollow}
+pub use Rattle.call_steps.specs.Calls.{Asks, Other}
+pub use Rattle.call_steps.specs.Follows.{ComesWith, HasObject}
 pub use Rattle.cpu_drain.proofs.Does.{grow_does, instruct_does, take_does}
 pub use Rattle.cpu_drain.specs.Laws.{AnswerMoves, AreOfSame, Grows, Instructs, IsHome, ReplyMoves, Takes}
 pub use Rattle.cpu_drain.specs.Seats.{CpuOk, IsHeld, IsStopping, SeatKeeps, SeatOk}
@@ -21,9 +21,9 @@ pub use Rattle.cpu_rows.{specs.Laws.AreCpuLimits, specs.Laws.CpuIsLawful, specs.
 pub use Rattle.cpu_rows.{specs.declared.row.DomainStep.DomainStep, specs.declared.row.Draining.Draining, specs.declared.row.Resizing.Resizing}
 pub use Rattle.cpu_rows.{specs.declared.row.Stopping.Stopping, specs.declared.seat.CpuSeat.CpuSeat}
 pub use Rattle.cpu_rows.specs.CpuActs.{Left, after_pop, after_push, after_stock, at_cpu_next, cap_answer, cpu_acts, domain_acts, drained, drains_on, due}
-pub use Rattle.cpu_rows.specs.CpuActs.{gives, gives_taken, grew_to, grows, instructed_to, instructs, is_due, leaves, left_for, looks_on, moves_to, put_in}
-pub use Rattle.cpu_rows.specs.CpuActs.{puts, replied, runs_open, sequence, sequence_by, started, stops, takes, took, yields_to_enter}
-pub use Rattle.cpu_rows.specs.CpuCalls.{cpu_calls, cpu_row, leave_row, move_of, stop_row, to_sequence, to_stop, with_move, with_next, yields_for}
+pub use Rattle.cpu_rows.specs.CpuActs.{gives, grew_to, instructed_to, instructs, leaves, left_for, looks_on, moves_to, put_in}
+pub use Rattle.cpu_rows.specs.CpuActs.{replied, runs_open, sequence, sequence_by, started, stops, takes, took, yields_to_enter}
+pub use Rattle.cpu_rows.specs.CpuCalls.{cpu_calls, cpu_row, leave_row, stop_row, to_sequence, to_stop, with_move, with_next, yields_for}
 pub use Rattle.cpu_rows.specs.CpuRows.{cpu_refuses}
 pub use Rattle.cpu_rows.specs.CpuFits.{FitsCpu, FitsDomain, FitsSequence, taken_by}
 pub use Rattle.cpu_rows.specs.CpuFront.{Cpu, CpuFrontPart, Domain, cpu_front, cpu_stored, domain_caches, first_cache, first_cpu, front_acts, front_parts}
@@ -35,7 +35,7 @@ pub use Rattle.cpu_rows.specs.PerCpu.{CpuLocal as Local, Next, Step}
 pub use Rattle.cpu_rows.specs.Shapes.{CpuShape, DomainShape, HasNone, IsAtBegin, IsAtFirst, IsGiving, IsStop, IsToCome}
 pub use Rattle.cpu_rows.specs.CpuRows.{alone, below, cpu_standing}
 pub use Rattle.cpu_rows.specs.Shapes.{giving_standing}
-pub use Rattle.cpu_rows.specs.CpuRows.{empty_to_start, empty_to_take, never}
+pub use Rattle.cpu_rows.specs.CpuRows.{empty_to_take, never}
 pub use Rattle.cpu_rows.specs.Slabs.{IsSlabOf, slab_class, table_class}
 pub use Rattle.cpu_rows.specs.Switches.{Kind, SwitchesAreFew, act_kind, closes, closing, count_at, enters, entry, instructed_kind, kind_at}
 pub use Rattle.cpu_rows.specs.Switches.{kind_of, neither, sequence_kind, step_kind}
@@ -46,9 +46,8 @@ pub use Rattle.cpu_slab.specs.Slots.{CpuSlab, SlabRow, held, no_row, row_at, wit
 pub use Rattle.holdings.specs.Moves.{IsOther}
 pub use Rattle.rseq_core.{specs.declared.answers.Grew.Grew, specs.declared.answers.Instructed.Instructed, specs.declared.cpu_part.CpuPart.CpuPart}
 pub use Rattle.rseq_core.{specs.declared.sequence.Pc.Pc, specs.declared.sequence.Reply.Reply, specs.declared.sequence.Seq.Seq}
-pub use Rattle.rseq_core.specs.Acts.{IsCurrent, answered, arrival, dropped, entered, entering, grew_by, instructed_by, instruction, left, open_after, runs}
-pub use Rattle.rseq_core.specs.Acts.{with_cell}
-pub use Rattle.rseq_core.specs.Tables.{Cell, cell, closes as closed_by, copy_or_commit, counted, is_pop, wanted}
+pub use Rattle.rseq_core.specs.Acts.{IsCurrent, arrival, dropped, entered, instructed_by, instruction, left, open_after, runs}
+pub use Rattle.rseq_core.specs.Tables.{Cell, copy_or_commit, is_pop, wanted}
 pub use Rattle.rseq_core.specs.declared.sequence.Pc.TheVariants.{Begin, Commit, Copy, Header, Test}
 pub use Rattle.std.proofs.{Math.Nat.mod-lt, lemmas.List.length-replicate, lemmas.List.length-reverse}
 pub use Rattle.tc_model.{specs.declared.calls.MoveTo.MoveTo, specs.declared.config.Config.Config}

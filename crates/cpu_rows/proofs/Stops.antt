@@ -1,9 +1,9 @@
 -- Acts of a thread that stops a CPU, and of one that leaves it at the end of its call.
 use Rattle.std.proofs.Common.{◌≡◌, refl, ℕ, ◌+◌, ◌*◌, ◌<◌, ◌≤◌, Bool, true, [], ◌∷◌, List, length, reverse, Option, Some, None, ap, sym, ◌∙◌, arith, is_some}
 use Rattle.cpu_rows.proofs.Common.{cond_both, cases_eq, eqb-true, eq-eqb, lt-ltb, ltb-true, ltb-false, le-ltb, length-append, length-reverse, Contents, Addr}
-use Rattle.cpu_rows.proofs.Common.{Class, ThreadNo, Drain, Resize, MoveTo, CapFault, SlabRow, CpuSlab, row_at, held, cap_fault, set_unless, row_same}
-use Rattle.cpu_rows.proofs.Common.{row_other, CpuPart, Regs, IsHeld, Takes, take_does, objects_at, IsOther, Draining, Resizing, Stopping, CpuStep, Next}
-use Rattle.cpu_rows.proofs.Common.{Other, leaving, at_cpu_next, stops, drained, took, cap_answer, left_for, about_cpu, at_cpu, cpu_of, taken_by, thread_no}
+use Rattle.cpu_rows.proofs.Common.{Class, ThreadNo, Drain, Resize, MoveTo, CapFault, CpuSlab, row_at, held, cap_fault, set_unless, row_same}
+use Rattle.cpu_rows.proofs.Common.{row_other, CpuPart, Regs, IsHeld, Takes, take_does, IsOther, Draining, Resizing, Stopping, CpuStep, Next}
+use Rattle.cpu_rows.proofs.Common.{Other, leaving, stops, drained, took, cap_answer, left_for, about_cpu, at_cpu, cpu_of, taken_by, thread_no}
 use Rattle.cpu_rows.proofs.Common.{AreRows, most_slots, never, below, alone, empty_to_take, cpu_standing, IsStop, IsAtFirst, IsAtBegin, IsToCome, CpuShape}
 use Rattle.cpu_rows.proofs.Common.{Limits, limits_of, seated, objects_append, objects_reverse}
 use Rattle.cpu_rows.specs.CpuRows.{stands}

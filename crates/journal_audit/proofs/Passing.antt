@@ -30,7 +30,7 @@ pub record Passes (plan : Plan) (earlier : List CallLine) (form : Option Told) (
   pub line : c ≡ line_of told call
   pub keeps : Keeps plan earlier c.call c.answer
 
--- no rule fails, so none of the first ones does
+-- where no rule fails, what each asks is kept
 keeps_all : (plan : Plan) (earlier : List CallLine) (call : Call) (answer : Answer) → broken plan earlier call answer ≡ None → Keeps plan earlier call answer
 keeps_all plan earlier call answer h = grind (arith)
 

@@ -1,5 +1,5 @@
 -- The text of a run is read again: its lines of calls tell the calls that it was printed of.
-use Rattle.std.proofs.Common.{◌≡◌, ℕ, ◌&&◌, ◌==◌, if◌then◌else◌, true, false, List, [], ◌∷◌, ◌++◌, length, map, cond, codes, decimal, Some, None, refl, sym}
+use Rattle.std.proofs.Common.{◌≡◌, ℕ, ◌&&◌, ◌==◌, if◌then◌else◌, true, false, List, [], ◌∷◌, ◌++◌, length, map, cond, codes, decimal, Some, refl, sym}
 use Rattle.std.proofs.Common.{ap, ◌∙◌, ◌+◌, suc, not, take, subst, arith, append_assoc}
 use Rattle.std.specs.List.{All, AllZip, before_first, enumerate_from, position_or_len}
 use Rattle.std.proofs.lemmas.Bool.{eq-eqb, false_from_ne_true}
@@ -11,7 +11,6 @@ use Rattle.tc_units.specs.declared.units.ThreadNo.{ThreadNo}
 use Rattle.tc_units.specs.declared.rows.RowKind.{RowKind}
 use Rattle.tc_units.specs.declared.rows.RowView.{RowView}
 use Rattle.tc_model.specs.declared.calls.Call.{Call}
-use Rattle.tc_model.specs.declared.calls.Call.TheVariants as call
 use Rattle.tc_model.specs.declared.answers.Answer.{Answer}
 use Rattle.tc_model.specs.declared.answers.Answer.TheVariants as answer
 use Rattle.tc_model.specs.declared.answers.CallLine.{CallLine}

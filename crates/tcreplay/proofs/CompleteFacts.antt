@@ -16,7 +16,6 @@ use Rattle.tcreplay.specs.Auditing.{case_in, HasAudited}
 use Rattle.tcreplay.specs.Replayed.{HasTried}
 use Rattle.tcreplay.specs.Outcomes.{IsAnswered, IsOutcome, SomeRose, SomeGenerationRose, IsComplete, given_by, audit_given_by}
 
--- the same step behind a step, and steps that answer alike
 -- what is told is what was given
 job_same : (replay : Replay) (given : Given) (all : Files) (text : List ℕ) → AreGiven replay (Some all) (Some text) given → job_of replay given ≡ job_of replay (given_by replay all text given.came)
 job_same replay given all text told = grind (arith)

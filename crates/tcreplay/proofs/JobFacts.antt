@@ -40,7 +40,6 @@ cut_early runner given t u f g end cut = grind (arith)
 step_count : {A B : Type 0} (seen : B → A) (verdict : Result A End) (fault end : End) (old new : ℕ) → IsStep seen verdict fault old new (Err end) → IsCounted fault end old new
 step_count seen verdict fault end old new x6 = grind (arith)
 
--- no end of a file is want of memory, or a fault of the source
 -- where nothing of the trace is gone that the limit doesn't allow, no more is gone than at any end
 gone_least : (end : End) → trace_limit ≤ most_gone end
 gone_least (TooLong limit) = omega arith

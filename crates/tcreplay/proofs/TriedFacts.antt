@@ -128,7 +128,7 @@ no_file schedule locks threads = grind (arith)
 abbrev job_made : List ClassRow → Asked → List ℕ → verdict.Job
 job_made rows asked picks = record { input = record { rows = rows; asked = asked }; picks = picks }
 
--- without an order file, a job's picks are those that came
+-- without an order file, the job that is asked for has the picks that came
 behind_asked : (replay : Replay) (given : Given) (came : List ℕ) (job : verdict.Job) (rows : List ClassRow) → file_of replay.schedule ≡ None
     → (asked : Result Asked End) → and_then (job_with replay given rows) asked ≡ Ok job
     → and_then (job_with replay (given_with given came) rows) asked ≡ Ok (job_behind job came)

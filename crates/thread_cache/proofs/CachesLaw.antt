@@ -11,7 +11,7 @@ use Rattle.tc_units.specs.declared.spans.ClassRow.{ClassRow}
 use Rattle.tc_model.specs.declared.config.Config.{Config}
 use Rattle.rseq_core.specs.declared.regs.Regs.{Regs}
 use Rattle.size_classes.specs.Rows.{sizes_of}
-use Rattle.holdings.specs.{Runs.objects_at, Books.no_class}
+use Rattle.holdings.specs.{Runs.objects_at}
 use Rattle.holdings.proofs.Sums.{of_all, shift, least}
 use Rattle.call_steps.specs.Fronts.{AreEntries}
 use Rattle.call_steps.specs.Shapes.{AreRows}

@@ -28,8 +28,8 @@ use Rattle.alloc_rules.proofs.Counting.{objects_append, objects_cut, objects_las
 use Rattle.thread_cache.specs.declared.row.CacheRow.{CacheRow}
 use Rattle.thread_cache.specs.declared.row.CacheRow.TheVariants.{Pop, Stock, Add, Ask, Raise, AddAgain, Trim}
 use Rattle.thread_cache.specs.declared.seat.CacheSeat.{CacheSeat}
-use Rattle.thread_cache.specs.Cache.{Cache, bytes, unused, objects_of, with_class, fitting, given}
-use Rattle.thread_cache.specs.Rows.{about_row, next_cache, next_victim, popped, stocked, left_in, after_stock, after_add, after_again, ask_most, after_ask}
+use Rattle.thread_cache.specs.Cache.{Cache, bytes, objects_of, with_class, fitting, given}
+use Rattle.thread_cache.specs.Rows.{about_row, next_cache, next_victim, popped, stocked, left_in, after_stock, after_add, after_again, after_ask}
 use Rattle.thread_cache.specs.Rows.{cache_acts, cache_front}
 use Rattle.thread_cache.specs.Holds.{given_in, given_at, HandAt, IsSeated, IsCacheOf}
 use Rattle.thread_cache.proofs.Stacks.{of_class, of_other, classes, trimmed_is, added_is}

@@ -11,7 +11,7 @@ use Rattle.trace_text.specs.Lines.{is_line_feed, is_space, without_last_empty, w
 use Rattle.trace_text.specs.Places.{TextLeft, LineLeft, TakesLine, fields_between, EndsLine, EndsLastLine}
 use Rattle.trace_text.proofs.Ranges.{drop-slice_range, take-drop, slice_range_one, slice_range_two}
 
--- the place that `position` tells, or all bytes where it tells none
+-- all bytes where `position` tells no place
 pub position_missing : (p : ℕ → Bool) (xs : List ℕ) → position p xs ≡ None → length xs ≡ position_or_len p xs
 position_missing p xs h = grind (arith, nat_tests, prefix_len-le-length)
 
