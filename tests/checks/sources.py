@@ -7,7 +7,7 @@ from checks.program import TOP
 CORE = ['call_steps', 'alloc_rules', 'tc_machine']
 FRONT = re.compile(r'\b(Seq|Pc|slabs?|stoppers?|domains?)\b', re.IGNORECASE)
 # the head `slab` of a trace, and what is said of its range
-HEAD = re.compile(r'\bc\.slab\b|\bslab [:=]|\bis Slab\b|\bHead\.TheVariants\.\{[^}]*\}')
+HEAD = re.compile(r'\bc\.slab\b|\bslab [:=]|\(is Slab\)|\bHead\.TheVariants\.\{[^}]*\}')
 LIBRARY = 'Rattle.std.'
 
 

@@ -28,8 +28,8 @@ pub record IsPut (row new : List Bool) (start n : ℕ) : Type 0 where
   pub early : (k : ℕ) → k < start → slice_index_or new k true ≡ slice_index_or row k true
   pub late : (k : ℕ) → start + n ≤ k → slice_index_or new k true ≡ slice_index_or row k true
 
--- between what n places from `start` on stand that are in one state: whether they are used, and whether the place before them
--- and the one behind them are; beyond the row all are
+-- n places from `start` on, which are in one state, and what stands beside them: whether they are used, and whether the place
+-- before them and the one behind them are; beyond the row all are
 pub record IsBetween (row : List Bool) (start n : ℕ) (used used_before used_behind : Bool) : Type 0 where
   pub some : 0 < n
   pub first : slice_index_or row start true ≡ used

@@ -74,7 +74,7 @@ rows_of rows is = record { some = omega (arith, is.some); few = is.most; each = 
 
 -- the limits of a trace, as the core with its front-ends and the page heap need them
 pub heads_of : (config : Config) → reads.IsConfig config → AreLimits config
-heads_of config is = grind (arith, is Cpus, is Threads, is Huge, is Region, is Slab, is Percpu)
+heads_of config is = grind (arith, is Cpus, is Threads, is Huge, is Region, (is Slab), is Percpu)
 
 pub heap_heads_of : (config : Config) → reads.IsConfig config → heaps.AreLimits (heap_config config)
 heap_heads_of config is = grind (arith, is Huge, is Cache, is Region, is Slack, is Window)
