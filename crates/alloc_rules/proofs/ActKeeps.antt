@@ -1,12 +1,12 @@
 -- Each act, at whatever part, leaves the local its shape and keeps the front-end's invariant.
 use Rattle.std.proofs.Common.{◌≡◌, ℕ, ◌+◌, ◌<◌, ◌≤◌, List, [], ◌∷◌, ◌++◌, length, Option, Some, None, refl, sym, ap, ◌∙◌, subst, arith, slice_get}
-use Rattle.alloc_rules.proofs.Common.{Call, length-append, Contents, Addr, Label, ThreadNo, SpanRef, SpanKind, Small, Large, Free, Planned, Answer}
+use Rattle.alloc_rules.proofs.Common.{Call, length-append, Contents, Addr, Label, ThreadNo, SpanRef, SpanKind, Small, Large, Free, Planned, Answer, at_hand}
 use Rattle.alloc_rules.proofs.Common.{Freed, SpanMap, holds, NameState, state_of, Placed, new, Regs, LOADED_ROOM, room, appended, opening, IsFetched}
 use Rattle.alloc_rules.proofs.Common.{fetch_moves, add_moves, give_moves, small, run_of, Asking, Freeing, Giving, Onward, Next, Step, ShardStep, HeapStep}
-use Rattle.alloc_rules.proofs.Common.{MapStep, Local, step_or, no_class, class_row, decided, goes, ends, with_regs, serves, with_freed, with_more, fetches}
-use Rattle.alloc_rules.proofs.Common.{shard_row, after_new, after_new_span, without_first_span, frees_span, heap_row, found, map_row, after_take, MayDecide}
-use Rattle.alloc_rules.proofs.Common.{MayGoOnDecided, says, goes_or_ends, follows, About, call_about, IsClassRow, AreRows, BeginsWith, most_slots, At, Here}
-use Rattle.alloc_rules.proofs.Common.{Away, Standing, stand, at_row, at_onward, at_next, regs_next, at_step, IsAsked, HandAbout, HasNone, HasSpans, IsOnward}
+use Rattle.alloc_rules.proofs.Common.{MapStep, Local, step_or, no_class, class_row, decided, goes, ends, serves, with_more, fetches}
+use Rattle.alloc_rules.proofs.Common.{shard_after, after_new, after_new_span, frees_span, heap_after, found, map_after, after_take, MayDecide}
+use Rattle.alloc_rules.proofs.Common.{MayGoOnDecided, follows, About, call_about, IsClassRow, AreRows, BeginsWith, most_slots, At, Here}
+use Rattle.alloc_rules.proofs.Common.{Away, Standing, stand, at_row, at_next, regs_next, at_step, IsAsked, HandAbout, HasNone, HasSpans, IsOnward}
 use Rattle.alloc_rules.proofs.Common.{StepShape, IsShaped, IsAct, IsLawful, FrontRules, Left, FitsShard, FitsMap, IsKept, IsLowRun, ShardActsKeep}
 use Rattle.alloc_rules.proofs.Common.{HeapActsKeep, IsKindThere, IsFoundClass, MapActsKeep, NamesActsKeep, FrontActsKeep}
 use Rattle.alloc_rules.specs.FrontLaw.{IsReady}
@@ -21,6 +21,7 @@ use Rattle.call_steps.specs.declared.step.ShardStep.TheVariants as shard
 use Rattle.call_steps.specs.declared.step.MapStep.TheVariants as map
 use Rattle.call_steps.specs.declared.step.NamesStep.TheVariants as names
 use Rattle.call_steps.specs.Calls as calls
+use Rattle.call_steps.specs.Rows as has
 use Rattle.alloc_rules.specs.FrontLaw as fronts
 use Rattle.alloc_rules.proofs.Keeping.{Common, IsNext, NotHere, behind, changed, clears_next, common_of, ends_next, entry_at, entry_shape, gave_next}
 use Rattle.alloc_rules.proofs.Keeping.{given_back_next, giving_not, goes_quiet, kept_by, later_shape, onward_not, publishes_next, same_next, serves_next}
@@ -77,8 +78,8 @@ module _ {P V R : Type 0} {r : FrontRules P V R} {about : R → About} {planned 
     fetches_next l a xs c n asked few = grind (arith, more_next, to)
 
     shard_next : (s : shards.Shard) (l : Local V R) (row : ShardStep R) → Common' l → StepShape r.calls.rows about l (does.Shard row) → IsSound s.central
-        → s.central.row ≡ class_row r.calls.rows l → IsLowRun row → FitsShard r.calls.rows s l row
-        → Next' (stand l.seat l.regs (l.acts + 1) (at_step (does.Shard row))) (shard_row r.calls s l row).1
+        → s.central.row ≡ class_row r.calls.rows l → IsLowRun row → FitsShard r.calls.rows s l (does.Shard row)
+        → Next' (stand l.seat l.regs (l.acts + 1) (at_step (does.Shard row))) (shard_after r.calls s l (does.Shard row)).1
     shard_next s l (shard.Fetch a) c shape sound same low fit =
         let is : IsClassRow (class_row r.calls.rows l) = row_there l c in
         let n : ℕ = (class_row r.calls.rows l).batch in
@@ -102,14 +103,14 @@ module _ {P V R : Type 0} {r : FrontRules P V R} {about : R → About} {planned 
     span_next h l a o c n asked = grind (arith, new_next, to)
 
     frees_next : (h : heaps.Heap) (l : Local V R) (o : Onward R) (spans : List SpanRef) → l.freed.items ≡ spans → Common' l → HasSpans l → IsOnward r.calls.rows about o
-        → Next' (stand l.seat l.regs (l.acts + 1) (at_onward o)) (frees_span r.calls h l o spans).1
+        → Next' (stand l.seat l.regs (l.acts + 1) (at_hand (has.GivesSpans o))) (frees_span r.calls h l o spans).1
     frees_next h l o [] freed c n is = absurd (let e = ap length freed in omega (arith, e, n.some))
     frees_next h l o (s ∷ others) freed c n is =
-        let l' : Local V R = with_freed l (without_first_span l.freed others) in
+        let l' : Local V R = record l { freed = record { items = others; spare = l.freed.spare + 1 } } in
         clears_next law table t l' o others refl (changed law table t c c.class c.hand (let e = ap length freed in omega (arith, e, c.freed))) n.hand is
 
     heap_next : (h : heaps.Heap) (l : Local V R) (row : HeapStep R) → Common' l → StepShape r.calls.rows about l (does.Heap row)
-        → Next' (stand l.seat l.regs (l.acts + 1) (at_step (does.Heap row))) (heap_row r.calls h l row).1
+        → Next' (stand l.seat l.regs (l.acts + 1) (at_step (does.Heap row))) (heap_after r.calls h l (does.Heap row)).1
     heap_next h l row c shape = grind (arith, ends_decided, frees_next, new_next, span_next)
 
     -- the map
@@ -128,7 +129,7 @@ module _ {P V R : Type 0} {r : FrontRules P V R} {about : R → About} {planned 
         let begins : BeginsWith addr g.hand.items = subst (BeginsWith addr) (sym in_hand) refl in
         let other : Step R = does.Shard (shard.Give (giving.Freed f)) in
         let more = stays_away law table t l.seat l.regs (l.acts + 1) (l.acts + 1) k hand (omega arith) there same in
-        let new : Local V R = goes (with_regs l g) (step_or other (r.calls.free l.seat f)) in
+        let new : Local V R = goes (record l { regs = g }) (step_or other (r.calls.free l.seat f)) in
         let step = entry_shape law table t (calls.Frees f) other new (r.calls.free l.seat f) (law.entries.free_about l.seat f) (begins, few) n.freed
         (record { few = few; freed = n.freed }, begins) in
         record {
@@ -137,8 +138,8 @@ module _ {P V R : Type 0} {r : FrontRules P V R} {about : R → About} {planned 
         }
     found_kind l label addr span Large there space c n = to l (does.Map (map.Clear label (run_of span))) c n refl (λ none. none)
 
-    map_next : (x : SpanMap) (l : Local V R) (row : MapStep R) → Common' l → StepShape r.calls.rows about l (does.Map row) → FitsMap x l row → IsFoundClass r.calls.rows x row
-        → Next' (stand l.seat l.regs (l.acts + 1) (at_step (does.Map row))) (map_row r.calls x l row).1
+    map_next : (x : SpanMap) (l : Local V R) (row : MapStep R) → Common' l → StepShape r.calls.rows about l (does.Map row) → FitsMap x l (does.Map row) → IsFoundClass r.calls.rows x row
+        → Next' (stand l.seat l.regs (l.acts + 1) (at_step (does.Map row))) (map_after r.calls x l (does.Map row)).1
     map_next x l row c shape fit there = grind (arith, same_next, found_kind, to)
 
     -- from a step that is written out
@@ -154,15 +155,15 @@ module _ {P V R : Type 0} {r : FrontRules P V R} {about : R → About} {planned 
 
   pub shard_acts_keep : ShardActsKeep r about planned Holds
   shard_acts_keep t s l row table shaped is sound same low fit =
-      kept_at table t l (shard_row r.calls s l row).1 (does.Shard row) shaped is (shard_not row) (λ c shape. shard_next table t s l row c shape sound same low fit)
+      kept_at table t l (shard_after r.calls s l (does.Shard row)).1 (does.Shard row) shaped is (shard_not row) (λ c shape. shard_next table t s l row c shape sound same low fit)
 
   pub heap_acts_keep : HeapActsKeep r about planned Holds
   heap_acts_keep t h l row table shaped is fit =
-      kept_at table t l (heap_row r.calls h l row).1 (does.Heap row) shaped is (heap_not row) (heap_next table t h l row)
+      kept_at table t l (heap_after r.calls h l (does.Heap row)).1 (does.Heap row) shaped is (heap_not row) (heap_next table t h l row)
 
   pub map_acts_keep : MapActsKeep r about planned Holds
   map_acts_keep t x l row table shaped is fit there =
-      kept_at table t l (map_row r.calls x l row).1 (does.Map row) shaped is (map_not row) (λ c shape. map_next table t x l row c shape fit there)
+      kept_at table t l (map_after r.calls x l (does.Map row)).1 (does.Map row) shaped is (map_not row) (λ c shape. map_next table t x l row c shape fit there)
 
   pub names_acts_keep : NamesActsKeep r about planned Holds
   names_acts_keep t all l (names.Publish label value) table shaped is fit =
@@ -202,7 +203,7 @@ module _ {P V R : Type 0} {r : FrontRules P V R} {about : R → About} {planned 
     decides_behind : (a : About) (answer : Answer) (to_row : Option R) → MayDecide a answer → (to_row ≡ None → x.regs.hand.items ≡ [])
         → MayGoOnDecided about to_row
         → length x.regs.hand.items ≤ most_slots
-        → IsNext law table t (stand x.seat x.regs (l.acts + 1) (at_row to_row)) (goes_or_ends r.calls (says then (call_about a) answer) to_row)
+        → IsNext law table t (stand x.seat x.regs (l.acts + 1) (at_row to_row)) (follows r.calls then (call_about a) (next.Decide answer to_row))
     decides_behind (calls.Other (Some call)) answer None may none on few = ends_decided table t then call answer common (has_none (none refl))
     decides_behind (calls.Other (Some call)) answer (Some to_row) may none on few = grind (arith, at_front, common)
     decides_behind a answer to_row may none on few = absurd may

@@ -85,7 +85,7 @@ module _ {P V R : Type 0} {r : FrontRules P V R} {about : R → About} {planned 
   asked_some l s n low shape is = absurd (cc)
 
   -- a block of a live run or of an object, in whichever order runs and spans stand
-  standing : (x : Extent) → IsStanding (setup_of r asked) b x → IsStanding (setup_of r asked) (books_of r about Holds asked p locals) x
+  standing : (x : Extent) → IsStanding r.calls.rows b x → IsStanding r.calls.rows (books_of r about Holds asked p locals) x
   standing x stands =
       elim stands [
         | inl large ↦ inl (record {
@@ -134,7 +134,7 @@ module _ {P V R : Type 0} {r : FrontRules P V R} {about : R → About} {planned 
           threads = served.count;
         };
         blocks = f.kept.run;
-        blocks_are_live = All-weaker (IsStanding (setup_of r asked) b) (IsStanding (setup_of r asked) (books_of r about Holds asked p locals)) standing (blocks_after (calls locals order)) f.live;
+        blocks_are_live = All-weaker (IsStanding r.calls.rows b) (IsStanding r.calls.rows (books_of r about Holds asked p locals)) standing (blocks_after (calls locals order)) f.live;
         covered = bytes;
         decided = λ t l at. let inside = (served.works t l at).inside in record { count = inside.count; each = inside.decided; over = λ over. inside.none (ap is_under_way over) };
         answers_are_told = served.tells;

@@ -1,7 +1,7 @@
 -- An allocation is answered none exactly where the heap has no run for it.
-use Rattle.std.proofs.Common.{◌≡◌, ℕ, ◌+◌, ◌≤◌, ◌↔◌, Bool, true, [], ◌∷◌, ◌++◌, length, Option, Some, None, refl, sym, ap, ◌∙◌, arith}
+use Rattle.std.proofs.Common.{◌≡◌, ℕ, ◌≤◌, ◌↔◌, Bool, true, [], ◌∷◌, ◌++◌, length, Option, Some, None, refl, sym, ap, ◌∙◌, arith}
 use Rattle.alloc_rules.proofs.Common.{append_cancel_left, length-append, pages_holding, Label, Call, Malloc, Answer, Block, NoBlock, Placed, new, none_fits}
-use Rattle.alloc_rules.proofs.Common.{address_of, Asking, FrontCalls, FrontRules, closes, ends, class_row, Local, after_new, after_new_span}
+use Rattle.alloc_rules.proofs.Common.{address_of, Asking, FrontCalls, FrontRules, ends, class_row, Local, after_new, after_new_span}
 use Rattle.alloc_rules.proofs.Common.{heap_after, Decides, pages_asked, AnswersNone, Step, About}
 use Rattle.heap_rules.specs.Heap as heaps
 use Rattle.call_steps.specs.declared.step.Step.TheVariants as does
@@ -22,11 +22,8 @@ pub record GoesAs {V R : Type 0} (x y : Local V R) : Type 0 where
   pub ended : x.ended ≤ y.ended
   pub answers : y.answers ≡ x.answers
 
-closes_goes : {V R : Type 0} (e : FrontCalls V R) (x : Local V R) (row : Option R) → GoesAs x (closes e x row)
-closes_goes e x row = grind arith
-
 pub ends_goes : {V R : Type 0} (e : FrontCalls V R) (x : Local V R) → GoesAs x (ends e x)
-ends_goes e x = let g = closes_goes e (record x { acts = x.acts + 1 }) (e.last x.seat) in record { ended = g.ended; answers = g.answers }
+ends_goes e x = grind arith
 
 -- none, by what the heap gives
 module _ {V R : Type 0} (h : heaps.Heap) (l : Local V R) (b : Bool) where

@@ -1,17 +1,17 @@
 -- The names of other crates and of the definitions that most proofs here cite, passed on from one place. Declares nothing.
-pub use Rattle.alloc_rules.{specs.Acts.IsBefore, specs.Acts.setup, specs.Fits.Fits, specs.Fits.fits_step, specs.Heads.HasRoom, specs.declared.part.Part.Part}
-pub use Rattle.alloc_rules.specs.Accounts.{account_of, apart_of, clears_of, doing_of, first_run, mapped_of, off_of}
+pub use Rattle.alloc_rules.{specs.Acts.IsBefore, specs.Acts.setup, specs.Acts.setup_of, specs.Fits.Fits, specs.Fits.fits_step, specs.Heads.HasRoom, specs.declared.part.Part.Part}
+pub use Rattle.alloc_rules.specs.Accounts.{account_of, apart_of, clears_of, mapped_of, off_of}
 pub use Rattle.alloc_rules.specs.Answers.{AnswersNone, Decides, RefusesThere, pages_asked}
 pub use Rattle.alloc_rules.specs.FrontLaw.{FitsAt, IsAct, IsLawful, IsNext, IsOwn, RefusesAs, idle}
-pub use Rattle.alloc_rules.specs.Law.{AreLawful, HoldsAfter, books_of, calls, setup_of}
+pub use Rattle.alloc_rules.specs.Law.{AreLawful, HoldsAfter, books_of, calls}
 pub use Rattle.alloc_rules.specs.Laws.{AddsSome, FrontActsKeep, FrontActsMove, HeapActsKeep, HeapActsMove, IsFoundClass, IsKept, IsKindThere}
 pub use Rattle.alloc_rules.specs.Laws.{IsLowRun, MapActsKeep, MapActsMove, NamesActsKeep, NamesActsMove, ShardActsFit, ShardActsKeep, ShardActsMove}
 pub use Rattle.alloc_rules.specs.Machine.{Parts, after, first_of, first_parts, first_shard, first_shards, heap_config, middle_of, number, number_of, parts_of}
 pub use Rattle.alloc_rules.specs.Machine.{place_of, rules, turns, waits}
-pub use Rattle.alloc_rules.specs.Scripts.{Closes, Comes, GoesOn, IsIn, Path, Stays, is_under_way}
+pub use Rattle.alloc_rules.specs.Scripts.{Closes, Comes, GoesOn, IsIn, Path, Stays, doing_of, is_under_way}
 pub use Rattle.alloc_rules.specs.Shapes.{HandAbout, HasNone, HasSpans, IsAsked, IsGiving, IsOnward, IsShaped, StepShape}
-pub use Rattle.alloc_rules.specs.Standings.{At, Away, Here, Later, Standing, at_giving, at_next, at_onward, at_row, at_step, regs_next, stand, standing_of}
-pub use Rattle.alloc_rules.specs.Stocks.{AreBooksOf, ArePartsOk, Does, IsShardOf, decided_at, no_shard, shard_at, stock_of, stored_in}
+pub use Rattle.alloc_rules.specs.Standings.{At, Away, Here, Later, Standing, at_hand, at_next, at_row, at_step, regs_next, stand, standing_of}
+pub use Rattle.alloc_rules.specs.Stocks.{AreBooksOf, ArePartsOk, Does, IsShardOf, decided_at, shard_at, stock_of}
 pub use Rattle.alloc_rules.specs.Told.{TellsFirst, TellsScript, lines_by}
 pub use Rattle.alloc_rules.specs.Valid.{IsCall, IsInOrder, IsValid, got_in, put_in}
 pub use Rattle.alloc_rules.specs.declared.part.Part.TheVariants.{Front, Heap, Map, Names}
@@ -19,20 +19,18 @@ pub use Rattle.call_steps.{specs.Kept.call_at, specs.Kept.target_at, specs.decla
 pub use Rattle.call_steps.{specs.declared.step.Giving.Giving, specs.declared.step.HeapStep.HeapStep, specs.declared.step.MapStep.MapStep}
 pub use Rattle.call_steps.{specs.declared.step.NamesStep.NamesStep, specs.declared.step.Next.Next, specs.declared.step.Onward.Onward}
 pub use Rattle.call_steps.{specs.declared.step.Serving.Serving, specs.declared.step.ShardStep.ShardStep, specs.declared.step.Step.Step}
-pub use Rattle.call_steps.specs.Acts.{after_lookup, after_new, after_new_span, after_take, clears_span, found, frees_span, front_after, front_row, heap_after}
-pub use Rattle.call_steps.specs.Acts.{heap_row, map_after, map_row, names_after, names_row, shard_after, waits_for, waits_row, without_first_span}
+pub use Rattle.call_steps.specs.Acts.{after_new, after_new_span, after_take, found, frees_span, front_after, heap_after}
+pub use Rattle.call_steps.specs.Acts.{map_after, names_after, shard_after, waits_for}
 pub use Rattle.call_steps.specs.Calls.{About, HasNoLabel, about_giving, about_onward, call_about}
 pub use Rattle.call_steps.specs.Rows.{IsOf, doing_about, undecided, under, without_call}
-pub use Rattle.call_steps.specs.Fits.{FirstIsThere, FirstLives, FitsAdd, FitsBatch, FitsFrontStep, FitsGive, FitsHeap, FitsHeapStep, FitsMap, FitsMapStep}
-pub use Rattle.call_steps.specs.Fits.{FitsNames, FitsNamesStep, FitsShard, FitsShardStep}
-pub use Rattle.call_steps.specs.Follows.{MayDecide, MayGoOnDecided, follows, goes_or_ends, says, says as says_in}
+pub use Rattle.call_steps.specs.Fits.{FitsAdd, FitsBatch, FitsFront, FitsGive, FitsHeap, FitsMap, FitsNames, FitsShard}
+pub use Rattle.call_steps.specs.Follows.{MayDecide, MayGoOnDecided, follows}
 pub use Rattle.call_steps.specs.Fronts.{AreEntries, FrontCalls, FrontRules, IsEntry, KeepsHand, Left}
-pub use Rattle.call_steps.specs.Hands.{behind, clears, comes_to, decides_free, gave, given_back, goes_onward, publishes, serves, serves_first, stocks}
-pub use Rattle.call_steps.specs.Hands.{with_freed, with_hand as to_hand, with_hand, with_regs}
-pub use Rattle.call_steps.specs.Local.{Decided, Local, class_row, closes, decided, ends, first_act, first_of_call, first_of_malloc, fresh_regs, goes}
-pub use Rattle.call_steps.specs.Local.{idle_local, next_call, regs_of_malloc, step_or, thread_no, told}
+pub use Rattle.call_steps.specs.Hands.{clears, gave, given_back, publishes, serves, serves_first, stock_regs, stock_step, with_hand as to_hand, with_hand}
+pub use Rattle.call_steps.specs.Local.{Decided, Local, class_row, decided, ends, first_act, first_of_call, goes}
+pub use Rattle.call_steps.specs.Local.{idle_local, next_call, regs_of_call, step_or, thread_no, told}
 pub use Rattle.call_steps.specs.Shapes.{AreRows, BeginsWith, IsClassRow, most_slots}
-pub use Rattle.call_steps.specs.ShardActs.{fetches, shard_row, with_more}
+pub use Rattle.call_steps.specs.ShardActs.{fetches, with_more}
 pub use Rattle.call_steps.specs.declared.step.HeapStep.TheVariants.{FreeSpan, GiveBack, New, NewSpan, Unback}
 pub use Rattle.call_steps.specs.declared.step.MapStep.TheVariants.{Clear, ClearSpan, Lookup, Set, SetSpan}
 pub use Rattle.call_steps.specs.declared.step.ShardStep.TheVariants.{AddFetch, Fetch, Give}
@@ -65,7 +63,7 @@ pub use Rattle.page_map.specs.Spans.{IsWellFormed, SpanMap, holds, with_span, wi
 pub use Rattle.rseq_core.{specs.declared.regs.Regs.Regs, specs.declared.regs.TheConstants.HAND_ROOM, specs.declared.regs.TheConstants.LOADED_ROOM}
 pub use Rattle.rseq_core.specs.Bags.{appended, emptied, room, without_first}
 pub use Rattle.span_list.specs.Span.{SpanState, objects_of}
-pub use Rattle.std.specs.List.{position_or_len, range_with_len}
+pub use Rattle.std.{specs.List.position_or_len, specs.List.range_with_len, specs.Option.option_map_or, specs.Prelude.IsSomeAnd}
 pub use Rattle.std.proofs.{Math.Seq.append_snoc, lemmas.List.FromFn.get_or-range_with_len, lemmas.List.FromFn.length-range_with_len}
 pub use Rattle.std.proofs.lemmas.Bool.{and_from, and_parts, cases_Bool, cases_eq, cases_lt, cond-true, cond_both, eq-eqb, eqb-true}
 pub use Rattle.std.proofs.lemmas.Bool.{false_from_ne_true, false≢true, le-leb, le-ltb, leb-true, lt-ltb, ltb-false, ltb-true, ne_eqb}
@@ -79,9 +77,10 @@ pub use Rattle.tc_model.{specs.declared.calls.Planned.Planned, specs.declared.ma
 pub use Rattle.tc_model.proofs.CallSteps.{calls-step, picks-cons, picks-push_other, picks-push_same, picks-step}
 pub use Rattle.tc_model.proofs.MovingFacts.{IsKeptWith, front_moves, move_all, run_keeps_with}
 pub use Rattle.tc_model.specs.Blocks.{Extent, blocks_after, live_bytes, meets}
-pub use Rattle.tc_model.specs.Calls.{AreAt, AreBelow, AreOfPicks, AreRising, answers_at, picks_of}
+pub use Rattle.std.specs.Option.{option_map_or}
+pub use Rattle.tc_model.specs.Calls.{AreAt, AreBelow, AreOfPicks, AreRising, picks_of}
 pub use Rattle.tc_model.specs.Input.{Asked, Input, ThreadCall, label_end, labels_of, script_of}
-pub use Rattle.tc_model.specs.Replays.{HaveEnded, done_by, done_in}
+pub use Rattle.tc_model.specs.Replays.{HaveEnded, done_in}
 pub use Rattle.tc_model.specs.Run.{Rules, World, run, start, with_pair, world_of}
 pub use Rattle.tc_model.specs.Serial.{AreThreads, Ends, NeverWaits, Rises, next_turn}
 pub use Rattle.tc_model.specs.Sound.{FitsThere, IsOrder, IsReady}
@@ -93,5 +92,5 @@ pub use Rattle.tc_units.{specs.declared.spans.Run.Run, specs.declared.spans.Span
 pub use Rattle.tc_units.{specs.declared.spans.SpanKind.TheVariants.Small, specs.declared.spans.SpanRef.SpanRef, specs.declared.units.Addr.Addr}
 pub use Rattle.tc_units.{specs.declared.units.Class.Class, specs.declared.units.Label.Label, specs.declared.units.ThreadNo.ThreadNo}
 pub use Rattle.tc_units.proofs.Counts.{count_le, count_none, count_some, one-false, one-true}
-pub use Rattle.tc_units.specs.Classes.{class_of, length_by, length_of}
+pub use Rattle.tc_units.specs.Classes.{class_of, length_of}
 pub use Rattle.transfer_cache.specs.Transfer.{Transfer, last_first, without_last}

@@ -1,10 +1,10 @@
 -- The stock of sound shards is cut into objects.
 use Rattle.std.proofs.Common.{◌≡◌, ℕ, ◌<◌, ◌≤◌, List, length, Some, sym, ap, ◌∙◌, arith, inl, inr, All, slice_get}
-use Rattle.alloc_rules.proofs.Common.{cases_lt, get_or_past, sum_by-le-sum_by, All-map, All-weaker, slice_get_within, get_or_from_slice_get, slice_get-get_or}
+use Rattle.alloc_rules.proofs.Common.{cases_lt, get_or_past, sum_by-le-sum_by, All-map, All-weaker, slice_get_within, get_or_from_slice_get, slice_get-get_or, first_shard}
 use Rattle.alloc_rules.proofs.Common.{ClassRow, SpanRef, Small, SpanState, IsOfRow, Shard, spans_in, objects_in_spans, found_at, IsCutInto, LiesInSpan}
 use Rattle.alloc_rules.proofs.Common.{spans_cut, first_byte, run_of, same_span, objects_at, spans_like, spans_at, class_number, no_class, size_of, IsOfClass}
 use Rattle.alloc_rules.proofs.Common.{LiesIn, Begins, IsCut, least, counted, like_span, starting_span, counts_most, same_span_refl, same_span_run}
-use Rattle.alloc_rules.proofs.Common.{same_run_start, span_all, span_at_found, Parts, no_shard, shard_at, stock_of, IsShardOf, FrontRules, About}
+use Rattle.alloc_rules.proofs.Common.{same_run_start, span_all, span_at_found, Parts, shard_at, stock_of, IsShardOf, FrontRules, About}
 use Rattle.alloc_rules.proofs.Counting.{begun_count, objects_count, spans_count}
 
 -- the spans of a shard are of its row
@@ -16,10 +16,10 @@ row_pages x all =
 module _ {P V R : Type 0} (r : FrontRules P V R) (about : R → About) (rows : List ClassRow) (p : Parts P)
     (classes : length p.shards ≡ length rows) (shards : (k : ℕ) (x : Shard) → slice_get p.shards k ≡ Some x → IsShardOf rows k x) where
   there : (k : ℕ) → k < length rows → IsShardOf rows k (shard_at p.shards k)
-  there k below = shards k (shard_at p.shards k) (slice_get-get_or p.shards k no_shard (omega (arith, classes, below)))
+  there k below = shards k (shard_at p.shards k) (slice_get-get_or p.shards k (first_shard 0 0 no_class) (omega (arith, classes, below)))
 
   none_past : (k n : ℕ) → length rows ≤ k → (stock_of r about p).objects k n ≡ 0
-  none_past k n past = ap (λ (x : Shard). objects_at n (objects_in_spans x)) (get_or_past p.shards k no_shard (omega (arith, classes, past)))
+  none_past k n past = ap (λ (x : Shard). objects_at n (objects_in_spans x)) (get_or_past p.shards k (first_shard 0 0 no_class) (omega (arith, classes, past)))
 
   found_class : (k n : ℕ) → 0 < (stock_of r about p).objects k n → k < length rows
   found_class k n some = elim (cases_lt k (length rows)) [ inl below ↦ below | inr past ↦ absurd (omega (arith, some, none_past k n past)) ]
@@ -37,7 +37,7 @@ module _ {P V R : Type 0} (r : FrontRules P V R) (about : R → About) (rows : L
   lies_of k a below lies =
       let x : Shard = shard_at p.shards k in
       let member : 0 < spans_like lies.span (spans_in x) = omega (arith, lies.member (λ (y : SpanRef). same_span y lies.span) (same_span_refl lies.span), spans_count lies.span (spans_in x)) in
-      let sum = least (λ (y : Shard). spans_like lies.span (spans_in y)) p.shards k x (slice_get-get_or p.shards k no_shard (omega (arith, classes, below))) in
+      let sum = least (λ (y : Shard). spans_like lies.span (spans_in y)) p.shards k x (slice_get-get_or p.shards k (first_shard 0 0 no_class) (omega (arith, classes, below))) in
       grind (
         arith,
         span_all (λ (s : SpanRef). s.kind ≡ Small (class_number k)) lies.span (spans_in x) (there k below).kinds member,
@@ -64,7 +64,7 @@ module _ {P V R : Type 0} (r : FrontRules P V R) (about : R → About) (rows : L
       let sum = least (λ (y : Shard). spans_like s.0 (spans_in y)) p.shards k x is in
       let cut = spans_cut x of.sound in
       let object = cut.begun a (omega (arith, some, begun_count a (spans_in x))) in
-      let same : (stock_of r about p).objects k a ≡ objects_at a (objects_in_spans x) = ap (λ (y : Shard). objects_at a (objects_in_spans y)) (get_or_from_slice_get p.shards k x no_shard is) in
+      let same : (stock_of r about p).objects k a ≡ objects_at a (objects_in_spans x) = ap (λ (y : Shard). objects_at a (objects_in_spans y)) (get_or_from_slice_get p.shards k x (first_shard 0 0 no_class) is) in
       record { class = k; span = s.0; owned = omega (arith, sum, s.2); start = s.1; object = omega (arith, same, object, objects_count a (objects_in_spans x)) }
 
   -- no two objects of a class are at one address

@@ -1,12 +1,12 @@
 -- What no act does, over any front-end: it lowers no number of ended calls, and refuses a call only where its step may.
-use Rattle.std.proofs.Common.{◌≡◌, ℕ, ◌*◌, ◌/◌, ◌≤◌, Bool, true, false, List, [], ◌∷◌, Option, Some, None, refl, sym, ap, ◌∙◌, arith, find}
-use Rattle.alloc_rules.proofs.Common.{false≢true, page_bytes, Addr, Label, SpanRef, SpanKind, Small, Large, Call, Malloc, Free, Answer, Block, Freed, FreedNull}
+use Rattle.std.proofs.Common.{◌≡◌, ℕ, ◌+◌, ◌*◌, ◌/◌, ◌≤◌, Bool, true, false, List, [], ◌∷◌, Option, Some, None, refl, sym, ap, ◌∙◌, arith, find, slice_get}
+use Rattle.alloc_rules.proofs.Common.{false≢true, page_bytes, Addr, Label, SpanRef, SpanKind, Small, Large, Call, Malloc, Free, Answer, Block, Freed, FreedNull, without_span}
 use Rattle.alloc_rules.proofs.Common.{NoBlock, SpanMap, holds, NameState, Placed, Regs, without_first, address_of, Asking, Serving, Giving, Onward, Step, Next}
 use Rattle.alloc_rules.proofs.Common.{ShardStep, HeapStep, MapStep, NamesStep, FrontCalls, FrontRules, Local, decided, ends, class_row, About, call_about}
-use Rattle.alloc_rules.proofs.Common.{with_hand, stocks, serves_first, gave, clears, with_freed, says_in, goes_or_ends, follows, with_more, fetches, shard_row}
-use Rattle.alloc_rules.proofs.Common.{after_new, after_new_span, frees_span, without_first_span, heap_row, found, after_lookup, clears_span, map_row}
-use Rattle.alloc_rules.proofs.Common.{after_take, names_row, shard_after, heap_after, map_after, names_after, front_after, Decides, RefusesThere, Part}
-use Rattle.alloc_rules.proofs.Common.{RefusesAs, after}
+use Rattle.alloc_rules.proofs.Common.{with_hand, stock_regs, stock_step, goes, serves_first, gave, clears, follows, with_more, fetches, shard_after}
+use Rattle.alloc_rules.proofs.Common.{after_new, after_new_span, frees_span, heap_after, found, map_after}
+use Rattle.alloc_rules.proofs.Common.{after_take, names_after, front_after, Decides, RefusesThere, Part}
+use Rattle.alloc_rules.proofs.Common.{RefusesAs, after, option_map_or}
 use Rattle.call_steps.specs.Refusals.{is_refusal, may_refuse}
 use Rattle.name_table.specs.declared.table.NameState.TheVariants as name
 use Rattle.heap_rules.specs.Heap as heaps
@@ -56,7 +56,7 @@ tells refuses s l y call answer may ended is =
 
 module _ {V R : Type 0} (e : FrontCalls V R) (about : R → About) (refuses : R → Answer → Bool) where
   -- the ways in which a call goes on
-  stocks_goes : (x : Local V R) (s : Serving) (others : List Addr) → GoesAs x (stocks e x s others)
+  stocks_goes : (x : Local V R) (s : Serving) (others : List Addr) → GoesAs x (goes (record x { regs = stock_regs e x.regs others }) (stock_step e x.seat s others))
   stocks_goes x s others = grind arith
 
   clears_goes : (x : Local V R) (next : Onward R) (spans : List SpanRef) → GoesAs x (clears e x next spans)
@@ -75,7 +75,7 @@ module _ {V R : Type 0} (e : FrontCalls V R) (about : R → About) (refuses : R 
       let g = stocks_goes (decided (with_hand x (without_first 1 x.regs.hand)) (Malloc a.label a.size) (Block o (class_row e.rows x).size)) (record { label = a.label; addr = o }) others in
       says x _ (Malloc a.label a.size) (Block o (class_row e.rows x).size) refl g.ended g.answers
 
-  gave_leaves : (x : Local V R) (g : Giving R) → Plain x (gave e x g)
+  gave_leaves : (x : Local V R) (g : Giving R) → Plain x (gave e x g x.freed.items)
   gave_leaves x (giving.Rest s) = let g = clears_goes x (onward.Publish s) x.freed.items in quiet x _ g.ended g.answers
   gave_leaves x (giving.Freed f) =
       let g = clears_goes (decided x (Free f.label) (Freed f.addr)) onward.End x.freed.items in
@@ -86,7 +86,7 @@ module _ {V R : Type 0} (e : FrontCalls V R) (about : R → About) (refuses : R 
   -- the page heap
   frees_leaves : (h : heaps.Heap) (l : Local V R) (next : Onward R) (xs : List SpanRef) → Plain l (frees_span e h l next xs).1
   frees_leaves h l next [] = quiet l l (omega arith) refl
-  frees_leaves h l next (s ∷ others) = let g = clears_goes (with_freed l (without_first_span l.freed others)) next others in quiet l _ g.ended g.answers
+  frees_leaves h l next (s ∷ others) = let g = clears_goes (record l { freed = record { items = others; spare = l.freed.spare + 1 } }) next others in quiet l _ g.ended g.answers
 
   new_leaves : (h : heaps.Heap) (l : Local V R) (label : Label) (size : ℕ) (o : Option Placed) → Leaves refuses (does.Heap (heap.New label size)) l (after_new h l label size o).1
   new_leaves h l label size None = tells refuses (does.Heap (heap.New label size)) l _ (Malloc label size) NoBlock (λ _. refl) (omega arith) refl
@@ -97,7 +97,7 @@ module _ {V R : Type 0} (e : FrontCalls V R) (about : R → About) (refuses : R 
   span_leaves h l a None = tells refuses (does.Heap (heap.NewSpan a)) l _ (Malloc a.label a.size) NoBlock (λ _. refl) (omega arith) refl
   span_leaves h l a (Some x) = leaves_of refuses (does.Heap (heap.NewSpan a)) l _ (quiet l _ (omega arith) refl)
 
-  heap_leaves : (h : heaps.Heap) (l : Local V R) (row : HeapStep R) → Leaves refuses (does.Heap row) l (heap_row e h l row).1
+  heap_leaves : (h : heaps.Heap) (l : Local V R) (row : HeapStep R) → Leaves refuses (does.Heap row) l (heap_after e h l (does.Heap row)).1
   heap_leaves h l row = grind (arith, ends_saying, frees_leaves, leaves_of, new_leaves, span_leaves)
 
   -- the page map
@@ -105,15 +105,15 @@ module _ {V R : Type 0} (e : FrontCalls V R) (about : R → About) (refuses : R 
   found_leaves l label addr span (Small k) = quiet l _ (omega arith) refl
   found_leaves l label addr span Large = quiet l _ (omega arith) refl
 
-  lookup_leaves : (l : Local V R) (label : Label) (addr : Addr) (o : Option SpanRef) → Plain l (after_lookup e l label addr o)
+  lookup_leaves : (l : Local V R) (label : Label) (addr : Addr) (o : Option SpanRef) → Plain l (option_map_or (λ (s : SpanRef). found e l label addr s s.kind) o l)
   lookup_leaves l label addr None = quiet l l (omega arith) refl
   lookup_leaves l label addr (Some span) = found_leaves l label addr span span.kind
 
-  clears_span_leaves : (m : SpanMap) (l : Local V R) (next : Onward R) (xs : List SpanRef) → Plain l (clears_span m l next xs).1
+  clears_span_leaves : (m : SpanMap) (l : Local V R) (next : Onward R) (xs : List SpanRef) → Plain l (option_map_or {U = SpanMap × Local V R} (λ (s : SpanRef). (record m { spans = without_span s m.spans }, goes l (does.Heap (heap.FreeSpan next)))) (slice_get xs 0) (m, l)).1
   clears_span_leaves m l next [] = quiet l l (omega arith) refl
   clears_span_leaves m l next (s ∷ others) = quiet l _ (omega arith) refl
 
-  map_leaves : (m : SpanMap) (l : Local V R) (row : MapStep R) → Plain l (map_row e m l row).1
+  map_leaves : (m : SpanMap) (l : Local V R) (row : MapStep R) → Plain l (map_after e m l (does.Map row)).1
   map_leaves m l (mapped.Lookup label addr) = lookup_leaves l label addr (find (holds (addr.0 / page_bytes)) m.spans)
   map_leaves m l (mapped.ClearSpan next) = clears_span_leaves m l next l.freed.items
   map_leaves m l row = quiet l _ (omega arith) refl
@@ -125,7 +125,7 @@ module _ {V R : Type 0} (e : FrontCalls V R) (about : R → About) (refuses : R 
   take_leaves ns l label (name.Published None) = ends_saying l (Free label) FreedNull refl
   take_leaves ns l label (name.Published (Some addr)) = quiet l _ (omega arith) refl
 
-  names_leaves : (ns : List NameState) (l : Local V R) (row : NamesStep) → Plain l (names_row e ns l row).1
+  names_leaves : (ns : List NameState) (l : Local V R) (row : NamesStep) → Plain l (names_after e ns l (does.Names row)).1
   names_leaves ns l row = grind (arith, ends_quietly, take_leaves)
 
   -- a shard
@@ -133,12 +133,12 @@ module _ {V R : Type 0} (e : FrontCalls V R) (about : R → About) (refuses : R 
   fetch_leaves l a [] = quiet l _ (omega arith) refl
   fetch_leaves l a (o ∷ others) = from l (with_more l (o ∷ others)) _ refl refl refl (serves_leaves (with_more l (o ∷ others)) a (with_more l (o ∷ others)).regs.hand.items)
 
-  shard_leaves : (s : shards.Shard) (l : Local V R) (row : ShardStep R) → Plain l (shard_row e s l row).1
+  shard_leaves : (s : shards.Shard) (l : Local V R) (row : ShardStep R) → Plain l (shard_after e s l (does.Shard row)).1
   shard_leaves s l row = grind (arith, fetch_leaves, from, gave_leaves, serves_leaves)
 
   -- an act of the per-CPU caches, by what comes behind it
   decides_leaves : (s : Step R) (x : Local V R) (call : Option Call) (answer : Answer) (row : Option R) → (is_refusal answer ≡ true → may_refuse refuses s answer ≡ true)
-      → Leaves refuses s x (goes_or_ends e (says_in x call answer) row)
+      → Leaves refuses s x (follows e x call (next.Decide answer row))
   decides_leaves s x None answer None may = leaves_of refuses s x _ (ends_quietly x)
   decides_leaves s x None answer (Some row) may = leaves_of refuses s x _ (quiet x _ (omega arith) refl)
   decides_leaves s x (Some call) answer None may = let g = ends_goes e (decided x call answer) in tells refuses s x _ call answer may g.ended g.answers
@@ -160,38 +160,22 @@ module _ {V R : Type 0} (e : FrontCalls V R) (about : R → About) (refuses : R 
   shard_after_leaves x l s = leaves_of refuses s l l (quiet l l (omega arith) refl)
 
   pub heap_after_leaves : (h : heaps.Heap) (l : Local V R) (s : Step R) → Leaves refuses s l (heap_after e h l s).1
-  heap_after_leaves h l (does.Front row) = leaves_of refuses (does.Front row) l l (quiet l l (omega arith) refl)
-  heap_after_leaves h l (does.Shard row) = leaves_of refuses (does.Shard row) l l (quiet l l (omega arith) refl)
   heap_after_leaves h l (does.Heap row) = heap_leaves h l row
-  heap_after_leaves h l (does.Map row) = leaves_of refuses (does.Map row) l l (quiet l l (omega arith) refl)
-  heap_after_leaves h l (does.Names row) = leaves_of refuses (does.Names row) l l (quiet l l (omega arith) refl)
-  heap_after_leaves h l does.Ended = leaves_of refuses does.Ended l l (quiet l l (omega arith) refl)
+  heap_after_leaves h l s = leaves_of refuses s l l (quiet l l (omega arith) refl)
 
   pub map_after_leaves : (m : SpanMap) (l : Local V R) (s : Step R) → Leaves refuses s l (map_after e m l s).1
-  map_after_leaves m l (does.Front row) = leaves_of refuses (does.Front row) l l (quiet l l (omega arith) refl)
-  map_after_leaves m l (does.Shard row) = leaves_of refuses (does.Shard row) l l (quiet l l (omega arith) refl)
-  map_after_leaves m l (does.Heap row) = leaves_of refuses (does.Heap row) l l (quiet l l (omega arith) refl)
   map_after_leaves m l (does.Map row) = leaves_of refuses (does.Map row) l _ (map_leaves m l row)
-  map_after_leaves m l (does.Names row) = leaves_of refuses (does.Names row) l l (quiet l l (omega arith) refl)
-  map_after_leaves m l does.Ended = leaves_of refuses does.Ended l l (quiet l l (omega arith) refl)
+  map_after_leaves m l s = leaves_of refuses s l l (quiet l l (omega arith) refl)
 
   pub names_after_leaves : (ns : List NameState) (l : Local V R) (s : Step R) → Leaves refuses s l (names_after e ns l s).1
-  names_after_leaves ns l (does.Front row) = leaves_of refuses (does.Front row) l l (quiet l l (omega arith) refl)
-  names_after_leaves ns l (does.Shard row) = leaves_of refuses (does.Shard row) l l (quiet l l (omega arith) refl)
-  names_after_leaves ns l (does.Heap row) = leaves_of refuses (does.Heap row) l l (quiet l l (omega arith) refl)
-  names_after_leaves ns l (does.Map row) = leaves_of refuses (does.Map row) l l (quiet l l (omega arith) refl)
   names_after_leaves ns l (does.Names row) = leaves_of refuses (does.Names row) l _ (names_leaves ns l row)
-  names_after_leaves ns l does.Ended = leaves_of refuses does.Ended l l (quiet l l (omega arith) refl)
+  names_after_leaves ns l s = leaves_of refuses s l l (quiet l l (omega arith) refl)
 
 -- an act at whatever part
 module _ {P V R : Type 0} (r : FrontRules P V R) (about : R → About) (refuses_as : (p : P) (v : V) (g : Regs) (row : R) → RefusesAs r.refuses row (r.acts p v g row).next) where
   front_leaves : (p : P) (l : Local V R) (s : Step R) → Leaves r.refuses s l (front_after r about p l s).1
   front_leaves p l (does.Front row) = grind (arith, follows_leaves)
-  front_leaves p l (does.Shard row) = leaves_of r.refuses (does.Shard row) l l (quiet l l (omega arith) refl)
-  front_leaves p l (does.Heap row) = leaves_of r.refuses (does.Heap row) l l (quiet l l (omega arith) refl)
-  front_leaves p l (does.Map row) = leaves_of r.refuses (does.Map row) l l (quiet l l (omega arith) refl)
-  front_leaves p l (does.Names row) = leaves_of r.refuses (does.Names row) l l (quiet l l (omega arith) refl)
-  front_leaves p l does.Ended = leaves_of r.refuses does.Ended l l (quiet l l (omega arith) refl)
+  front_leaves p l s = leaves_of r.refuses s l l (quiet l l (omega arith) refl)
 
   after_leaves : (p : Part P) (l : Local V R) → Leaves r.refuses l.step l (after r about p l).1
   after_leaves (part.Front p) l = front_leaves p l l.step

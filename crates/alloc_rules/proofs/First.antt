@@ -1,16 +1,16 @@
 -- What holds of the parts, the threads and the books before the first act.
 use Rattle.std.proofs.Common.{◌≡◌, ℕ, zero, suc, ◌+◌, ◌<◌, false, get_or, List, [], ◌∷◌, length, drop, map, replicate, Option, Some, None, refl, sym, ap, ◌∙◌}
 use Rattle.std.proofs.Common.{subst, inr, arith, ◌++◌, slice_set, is_some, option_map, sum_by, All, slice_get}
-use Rattle.alloc_rules.proofs.Common.{range_with_len, false≢true, slice_get-get_or, slice_get-map, slice_get_within, length-append, length-map}
+use Rattle.alloc_rules.proofs.Common.{option_map_or, range_with_len, false≢true, slice_get-get_or, slice_get-map, slice_get_within, length-append, length-map}
 use Rattle.alloc_rules.proofs.Common.{length-range_with_len, get_or-range_with_len, sum_by-cons, All-nil, All-cons, All-map, class_of, Addr, Class, Label}
 use Rattle.alloc_rules.proofs.Common.{ClassRow, SpanRef, Call, Malloc, Free, Release, Drain, Resize, Planned, Asked, script_of, labels_of, start}
-use Rattle.alloc_rules.proofs.Common.{answers_at, AreBelow, NameState, Shard, places, spans_in, objects_in_spans, of_all, spans_like, spans_at}
+use Rattle.alloc_rules.proofs.Common.{AreBelow, NameState, Shard, places, spans_in, objects_in_spans, of_all, spans_like, spans_at}
 use Rattle.alloc_rules.proofs.Common.{objects_at, Account, got, put, gets, puts, asking, publishing, taking, pending, untaken, mentions, Books}
 use Rattle.alloc_rules.proofs.Common.{HasNothing, IsFirst, Facts, Regs, room, Step, append_snoc, FrontCalls, AreEntries, FrontRules}
-use Rattle.alloc_rules.proofs.Common.{IsEntry, Local, Decided, told, step_or, idle_local, first_of_malloc, first_of_call, first_act, regs_of_malloc}
+use Rattle.alloc_rules.proofs.Common.{IsEntry, Local, Decided, told, step_or, idle_local, first_of_call, first_act}
 use Rattle.alloc_rules.proofs.Common.{thread_no, About, call_at, IsClassRow, AreRows, first_shard, first_shards, first_of}
 use Rattle.alloc_rules.proofs.Common.{first_parts, rules, HasRoom, account_of, doing_of, doing_about, off_of, apart_of, mapped_of, clears_of, shard_at}
-use Rattle.alloc_rules.proofs.Common.{IsShardOf, stored_in, stock_of, Standing, standing_of, IsLawful, idle, IsIn, IsValid, calls, setup_of}
+use Rattle.alloc_rules.proofs.Common.{IsShardOf, stock_of, Standing, standing_of, IsLawful, idle, IsIn, IsValid, calls, setup_of}
 use Rattle.class_shard.proofs.SpanSums.{sum_by-map}
 use Rattle.heap_rules.proofs.Opened.{opened_sound}
 use Rattle.holdings.{proofs.Start.holds_at_first, specs.Accounts.holds}
@@ -20,7 +20,7 @@ use Rattle.call_steps.specs.declared.step.Step.TheVariants as does
 use Rattle.alloc_rules.proofs.Steps.{row_there}
 use Rattle.alloc_rules.proofs.Inputs.{both_in, in_scripts, sum-same, valid_once, valid_planned}
 use Rattle.alloc_rules.proofs.Keeping.{IsNext, come_next}
-use Rattle.alloc_rules.proofs.ScriptFacts.{asks_first, first_is_of, first_under, next_way}
+use Rattle.alloc_rules.proofs.ScriptFacts.{asks_first, first_is_of, first_of_malloc, first_under, next_way, regs_of_malloc}
 use Rattle.alloc_rules.proofs.Serving.{ArePlaced, IsAtWork, IsServed}
 
 -- The first act of a script: with the calls behind it, it allocates and frees the script's labels; and it holds nothing.
@@ -200,7 +200,7 @@ module _ {P V R : Type 0} {r : FrontRules P V R} {about : R → About} {planned 
       → sum_by f (map (account_of about) first_locals) ≡ in_scripts r.calls.rows planned g asked
   first_sum f g same = grind (arith, sum-same, sum_by-map)
 
-  no_stored : (k n : ℕ) → stored_in r about (first_parts r about asked) k n ≡ 0
+  no_stored : (k n : ℕ) → (stock_of r about (first_parts r about asked)).stored k n ≡ 0
   no_stored k n = omega (arith, law.none k n, no_places asked.config.transfer 0 k n r.calls.rows)
 
   -- the books at the start
@@ -244,7 +244,7 @@ module _ {P V R : Type 0} {r : FrontRules P V R} {about : R → About} {planned 
         rising = tt;
       }
 
-  answered_none : (numbers : List ℕ) (t : ℕ) → AreBelow (λ (d : Decided). d.act) 0 (answers_at (λ (l : Local V R). l.answers) (slice_get (map (first_of r about asked) numbers) t))
+  answered_none : (numbers : List ℕ) (t : ℕ) → AreBelow (λ (d : Decided). d.act) 0 (option_map_or (λ (l : Local V R). l.answers) (slice_get (map (first_of r about asked) numbers) t) [])
   answered_none [] t = tt
   answered_none (n ∷ numbers) zero = tt
   answered_none (n ∷ numbers) (suc t) = answered_none numbers t

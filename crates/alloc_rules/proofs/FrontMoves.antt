@@ -3,9 +3,9 @@ use Rattle.std.proofs.Common.{◌≡◌, ℕ, ◌+◌, ◌<◌, ◌⊎◌, List,
 use Rattle.std.proofs.Common.{slice_set}
 use Rattle.alloc_rules.proofs.Common.{eq-eqb, Addr, Class, Free, Freed, SpanRef, Regs, ClassRow, Serving, Freeing, Planned, Answer, CallLine, HeapConfig}
 use Rattle.alloc_rules.proofs.Common.{objects_at, Doing, Other, WeighSame, Books, One, MoveObjects, Asking, Giving, Next, Local, decided, goes, ends, publishes}
-use Rattle.alloc_rules.proofs.Common.{comes_to, serves, decides_free, behind, clears, About, HasNoLabel, call_about, MayDecide, MayGoOnDecided, says}
-use Rattle.alloc_rules.proofs.Common.{goes_or_ends, follows, BeginsWith, account_of, doing_about, HandAbout, StepShape, IsNext, IsAct, AreEntries, FrontRules}
-use Rattle.alloc_rules.proofs.Common.{Left, Parts, front_row, stock_of, Does, setup, IsBefore, FrontActsMove}
+use Rattle.alloc_rules.proofs.Common.{serves, gave, About, HasNoLabel, call_about, MayDecide, MayGoOnDecided}
+use Rattle.alloc_rules.proofs.Common.{follows, BeginsWith, account_of, doing_about, HandAbout, StepShape, IsNext, IsAct, AreEntries, FrontRules}
+use Rattle.alloc_rules.proofs.Common.{Left, Parts, front_after, stock_of, Does, setup, IsBefore, FrontActsMove}
 use Rattle.call_steps.specs.declared.step.Giving.TheVariants as giving
 use Rattle.call_steps.specs.declared.step.Next.TheVariants as next
 use Rattle.call_steps.specs.declared.step.Step.TheVariants as does
@@ -107,7 +107,7 @@ module _ {P V R : Type 0} {r : FrontRules P V R} {about : R → About} {planned 
     stays_stocked same = grind (arith, nat_tests, stock_same r about p fronts, front_stored r about p i q x.part)
 
     decides : (a : About) (answer : Answer) (to : Option R) → about row ≡ a → MayDecide a answer → came ≡ hand → MayGoOnDecided about to → (to ≡ None → came ≡ [])
-        → Goal (goes_or_ends r.calls (says then (call_about a) answer) to)
+        → Goal (follows r.calls then (call_about a) (next.Decide answer to))
     decides (calls.Other (Some call)) answer None is may same on_decided none =
         let silent = ends_as r.calls about entries (decided then call answer) k (none refl) in
         let own = with_about (calls.Other (Some call)) is ∙ ap (λ (h : List Addr). bare Other k h l.rest) (sym same ∙ none refl) in
@@ -120,10 +120,10 @@ module _ {P V R : Type 0} {r : FrontRules P V R} {about : R → About} {planned 
     decides a answer to is may same on_decided none = absurd may
 
     -- a hand that the front-end took itself
-    gives : (g : Giving R) → IsNext r about row l.regs x.regs (next.Gave g) → Goal (clears r.calls (decides_free then g) (behind g) [])
+    gives : (g : Giving R) → IsNext r about row l.regs x.regs (next.Gave g) → Goal (gave r.calls then g [])
     gives (giving.Rest s) may = publishing s may.0 may.1
     gives (giving.Freed f) may = freeing f may.0 may.1
-    gives (giving.Row j to) may = quiets (about to) may.0 (other_doing (about to) may.2.1) may.1 (comes_to then j to) (comes_as about then j to k may.2.1 may.1)
+    gives (giving.Row j to) may = quiets (about to) may.0 (other_doing (about to) may.2.1) may.1 _ (comes_as about then j to k may.2.1 may.1)
     gives giving.End may = quiets (calls.Other None) may.0 refl may.1 (ends r.calls then) (ends_as r.calls about entries then k may.1)
 
     follows_on : (n : Next R) → IsNext r about row l.regs x.regs n → Goal (follows r.calls then (call_about (about row)) n)
@@ -132,7 +132,7 @@ module _ {P V R : Type 0} {r : FrontRules P V R} {about : R → About} {planned 
     follows_on (next.Serve a) may = serving a may.0 (subst (HandAbout r.calls.rows l.regs) may.0 shape) came refl may.1
     follows_on (next.Fetch a) may = grind (arith, bare, on)
     follows_on (next.Give g) may = grind (arith, bare, begins_has, other_doing, on)
-    follows_on (next.Gave g) may = subst (λ (ss : List SpanRef). Goal (clears r.calls (decides_free then g) (behind g) ss)) (sym none_freed) (gives g may)
+    follows_on (next.Gave g) may = subst (λ (ss : List SpanRef). Goal (gave r.calls then g ss)) (sym none_freed) (gives g may)
     follows_on (next.Publish s) may = publishing s may.0 may.1
     follows_on (next.Freed f) may = freeing f may.0 may.1
     follows_on (next.Decide answer None) may = decides (about row) answer None refl may.0 may.1 tt (λ e. may.2)
@@ -143,5 +143,5 @@ module _ {P V R : Type 0} {r : FrontRules P V R} {about : R → About} {planned 
   front_acts_move huge labels limits p locals b lines t l i q row before step at act =
       let is : record l { step = does.Front row } ≡ l = ap (λ s. record l { step = s }) (sym step) in
       let shape = subst (StepShape r.calls.rows about l) step before.shaped.step in
-      subst (λ (y : Local V R). Does r about (setup r huge labels) (with_stores p (slice_set p.fronts i (front_row r about q y row).0) p.shards) b y (front_row r about q y row).1) is
+      subst (λ (y : Local V R). Does r about (setup r huge labels) (with_stores p (slice_set p.fronts i (front_after r about q y (does.Front row)).0) p.shards) b y (front_after r about q y (does.Front row)).1) is
       (follows_on i q row before at shape.0 shape.1 act (r.acts q l.seat l.regs row).next act.next)

@@ -3,12 +3,11 @@ use Rattle.std.proofs.Common.{◌≡◌, ℕ, ◌+◌, ◌<◌, List, [], ◌∷
 use Rattle.alloc_rules.proofs.Common.{append-nil, Contents, class_of, Addr, Class, Label, Run, SpanRef, Malloc, Free, Planned, Block, Freed, Regs, emptied}
 use Rattle.alloc_rules.proofs.Common.{Shard, objects_at, small, Account, Doing, Asks, Publishes, Frees, Other, WeighSame, Setup, Stock, Books, IsCut, size_of}
 use Rattle.alloc_rules.proofs.Common.{Said, SaysOther, Move, MovesHand, FreesObject, GetsObject, GetsFirst, Rests, MoveObjects, AddSpan, Asking, Freeing}
-use Rattle.alloc_rules.proofs.Common.{Giving, Decided, decided, goes, ends, class_row, Local, to_hand, with_freed, decides_free, behind, goes_onward, comes_to}
+use Rattle.alloc_rules.proofs.Common.{Giving, Decided, decided, goes, ends, class_row, Local, to_hand, gave}
 use Rattle.alloc_rules.proofs.Common.{serves, Parts, About, HasNoLabel, about_giving, doing_about, account_of, stock_of, AreBooksOf, decided_at, Does}
 use Rattle.alloc_rules.proofs.Common.{FrontCalls, AreEntries, FrontRules, IsGiving, setup}
 use Rattle.holdings.specs.Moves.{with_hand}
 use Rattle.call_steps.specs.declared.step.Giving.TheVariants as giving
-use Rattle.call_steps.specs.declared.step.MapStep.TheVariants as map
 use Rattle.call_steps.specs.declared.step.Step.TheVariants as step
 use Rattle.alloc_rules.proofs.Stored.{does_by, settled, with_stores}
 use Rattle.alloc_rules.proofs.Weighing.{bare, ends_counts, entry_is, quiet, weighs_is, weighs_next, weighs_quiet, weighs_same}
@@ -51,7 +50,7 @@ module _ {V R : Type 0} (e : FrontCalls V R) (about : R → About) (entries : Ar
   ends_as l k none = let counts = ends_counts e l in record { weighs = weighs_next e about entries l k none; acts = counts.0; answers = counts.1 }
 
 pub comes_as : {V R : Type 0} (about : R → About) (l : Local V R) (j : Class) (row : R) (k : ℕ) → HasNoLabel (about row) → l.regs.hand.items ≡ []
-    → Silent about l (comes_to l j row) (quiet k l.rest)
+    → Silent about l (goes (record l { regs = record l.regs { class = j } }) (step.Front row)) (quiet k l.rest)
 comes_as about l j row k other none = grind (arith, bare, other_doing, quiet, weighs_quiet)
 
 -- an allocation with a new span that is to be added to its shard
@@ -130,13 +129,13 @@ module _ {P V R : Type 0} {r : FrontRules P V R} {about : R → About} (entries 
     hand = l.regs.hand.items
 
     abbrev given : Local V R
-    given = with_freed (to_hand l (emptied l.regs.hand)) bag
+    given = record (to_hand l (emptied l.regs.hand)) { freed = bag }
 
     abbrev Own : Giving R → Type 0
     Own g = account_of about l ≡ bare (doing_about (about_giving about g)) k hand l.rest
 
     -- no span leaves, and the call ends or goes on
-    pub gives_hand : (g : Giving R) → IsGiving r.calls.rows about hand g → Own g → Moved k hand [] [] → Done l (goes_onward r.calls (decides_free given g) (behind g))
+    pub gives_hand : (g : Giving R) → IsGiving r.calls.rows about hand g → Own g → Moved k hand [] [] → Done l (gave r.calls given g [])
     gives_hand (giving.Rest s) gives is move = carries is move (λ label o doing. cc) (record { weighs = weighs_same _; acts = refl; answers = refl })
     gives_hand (giving.Freed f) gives is move = frees_object l.seat (record l.regs { hand = emptied l.regs.hand }) bag f is refl move
     gives_hand (giving.Row j row) gives is move =
@@ -144,21 +143,19 @@ module _ {P V R : Type 0} {r : FrontRules P V R} {about : R → About} (entries 
     gives_hand giving.End gives is move = carries is move (λ label o doing. cc) (ends_as r.calls about entries given k refl)
 
     -- spans leave with that: they are to be cleared
-    abbrev clearing : Giving R → Local V R
-    clearing g = goes (decides_free given g) (step.Map (map.ClearSpan (behind g)))
-
     spans_weigh : (d : Doing) (freed : List SpanRef) → bag.items ≡ freed
         → WeighSame (with_hand (bare d k hand l.rest) [] freed) (record (bare d k [] l.rest) { apart = bag.items; mapped = bag.items })
     spans_weigh d freed are = grind (arith, append-nil, bare, weighs_is)
 
-    pub gives_spans : (g : Giving R) (freed : List SpanRef) → IsGiving r.calls.rows about hand g → bag.items ≡ freed → Own g → Moved k hand [] freed → Done l (clearing g)
-    gives_spans (giving.Rest s) freed gives are is move =
-        carries is move (λ label o doing. cc) (record { weighs = spans_weigh (Publishes s.label (Some s.addr)) freed are; acts = refl; answers = refl })
-    gives_spans (giving.Freed f) freed gives are is move = frees_spans f freed is move (spans_weigh Other freed are) refl refl
-    gives_spans (giving.Row j row) freed gives are is move =
+    pub gives_spans : (g : Giving R) (s : SpanRef) (more : List SpanRef) → IsGiving r.calls.rows about hand g → bag.items ≡ s ∷ more → Own g → Moved k hand [] (s ∷ more)
+        → Done l (gave r.calls given g (s ∷ more))
+    gives_spans (giving.Rest v) s more gives are is move =
+        carries is move (λ label o doing. cc) (record { weighs = spans_weigh (Publishes v.label (Some v.addr)) (s ∷ more) are; acts = refl; answers = refl })
+    gives_spans (giving.Freed f) s more gives are is move = frees_spans f (s ∷ more) is move (spans_weigh Other (s ∷ more) are) refl refl
+    gives_spans (giving.Row j row) s more gives are is move =
         let other = other_doing (about row) gives.1 in
-        carries is move (λ label o doing. cc) (record { weighs = spans_weigh (doing_about (about row)) freed are; acts = refl; answers = refl })
-    gives_spans giving.End freed gives are is move = carries is move (λ label o doing. cc) (record { weighs = spans_weigh Other freed are; acts = refl; answers = refl })
+        carries is move (λ label o doing. cc) (record { weighs = spans_weigh (doing_about (about row)) (s ∷ more) are; acts = refl; answers = refl })
+    gives_spans giving.End s more gives are is move = carries is move (λ label o doing. cc) (record { weighs = spans_weigh Other (s ∷ more) are; acts = refl; answers = refl })
 
   -- no object moves, and something may be decided that is of no label
   pub says_other : {l after : Local V R} {a : Account} (said : List Said) → account_of about l ≡ a → stock_of r about p ≡ new → SaysOther said

@@ -1,11 +1,11 @@
 -- What the acts at the page heap do to the books.
-use Rattle.std.proofs.Common.{◌≡◌, ℕ, ◌*◌, ◌<◌, ◌≤◌, List, [], ◌∷◌, drop, Contains, Option, Some, None, refl, sym, ap, ◌∙◌, subst, arith}
+use Rattle.std.proofs.Common.{◌≡◌, ℕ, ◌+◌, ◌*◌, ◌<◌, ◌≤◌, List, [], ◌∷◌, drop, Contains, Option, Some, None, refl, sym, ap, ◌∙◌, subst, arith, map, take, slice_get}
 use Rattle.alloc_rules.proofs.Common.{append-nil, page_bytes, pages_holding, Label, Run, SpanRef, Free, Release, Freed, Released, CallLine, HeapConfig, Placed}
 use Rattle.alloc_rules.proofs.Common.{new, release, free_leaves, release_keeps, address_of, run_of, runs_like, less, Account, WeighSame, Setup, Books, GetsNone}
 use Rattle.alloc_rules.proofs.Common.{GetsRun, GetsSpan, FreesRun, FreesSpan, Rests, One, like, less_counts, Asking, New, NewSpan, GiveBack, FreeSpan, Unback}
-use Rattle.alloc_rules.proofs.Common.{decided, class_row, Local, with_freed, clears, heap_row, after_new, after_new_span, frees_span, without_first_span}
-use Rattle.alloc_rules.proofs.Common.{FirstLives, FitsHeap, Planned, About, about_onward, account_of, doing_about, first_run, AreEntries, FrontRules, Parts}
-use Rattle.alloc_rules.proofs.Common.{Does, setup, IsBefore, Onward, HeapStep, IsOnward, HeapActsMove, IsPlaced}
+use Rattle.alloc_rules.proofs.Common.{decided, class_row, Local, clears, heap_after, after_new, after_new_span, frees_span}
+use Rattle.alloc_rules.proofs.Common.{FitsHeap, Planned, About, about_onward, account_of, doing_about, AreEntries, FrontRules, Parts}
+use Rattle.alloc_rules.proofs.Common.{Does, setup, IsBefore, Onward, HeapStep, IsOnward, HeapActsMove, IsPlaced, IsSomeAnd}
 use Rattle.heap_rules.specs.Free.{freed}
 use Rattle.heap_rules.specs.Heap as heaps
 use Rattle.call_steps.specs.declared.step.Step.TheVariants as does
@@ -71,7 +71,7 @@ module _ {P V R : Type 0} (r : FrontRules P V R) (about : R → About) (planned 
         omega (arith, like-without_run x p.heap.runs q there (one_run p.heap x sound there), ap (runs_like q) rid.runs, less_counts x b.heap some (like q), before.books.heap q)
 
     abbrev left_by : HeapStep R → heaps.Heap × Local V R
-    left_by row = heap_row r.calls p.heap (at row) row
+    left_by row = heap_after r.calls p.heap (at row) (does.Heap row)
 
     gives_back : (label : Label) (run : Run) → Before (GiveBack label run) → Contains p.heap.runs run → Goal (GiveBack label run) (left_by (GiveBack label run))
     gives_back label run before there =
@@ -88,14 +88,14 @@ module _ {P V R : Type 0} (r : FrontRules P V R) (about : R → About) (planned 
     clears_silent x next xs on is none = grind (arith, bare, onward_silent, weighs_same)
 
     -- the first of the spans that left a shard is given back
-    frees : (next : Onward R) → Before (FreeSpan next) → (xs : List SpanRef) → l.freed.items ≡ xs → FirstLives p.heap xs
+    frees : (next : Onward R) → Before (FreeSpan next) → (xs : List SpanRef) → l.freed.items ≡ xs → IsSomeAnd (slice_get xs 0) (λ (x : SpanRef). Contains p.heap.runs (run_of x))
         → Goal (FreeSpan next) (frees_span r.calls p.heap (at (FreeSpan next)) next xs)
     frees next before [] is lives = absurd lives
     frees next before (s ∷ others) is lives =
-        let l' : Local V R = with_freed (at (FreeSpan next)) (without_first_span l.freed others) in
+        let l' : Local V R = record (at (FreeSpan next)) { freed = record { items = others; spare = l.freed.spare + 1 } } in
         let after = clears_silent l' next others before.shaped.step.1 refl before.shaped.step.0.hand in
         leaves before.books (freed p.heap (run_of s)) p.map (λ ns. ns)
-        (FreesSpan s others _ (ap first_run is) is (ap (drop 1) is)
+        (FreesSpan s others _ (ap (λ xs. map run_of (take 1 xs)) is) is (ap (drop 1) is)
         (subst (λ (xs : List SpanRef). WeighSame (owes l next others xs) (account_of about (clears r.calls l' next others))) (sym (ap (drop 1) is)) after.weighs))
         (less_like (run_of s) before lives) before.books.spans after.acts (after.answers ∙ sym (append-nil l.answers))
 
@@ -106,13 +106,13 @@ module _ {P V R : Type 0} (r : FrontRules P V R) (about : R → About) (planned 
         leaves before.books (release p.heap pages).heap p.map (λ ns. ns) (Rests _ _ ends.weighs (One _ tt))
         (λ r. omega (arith, before.books.heap r, ap (runs_like r) kept.runs)) before.books.spans ends.acts ends.answers
 
-    by_row : (row : HeapStep R) → Before row → FitsHeap m.rows p.heap (at row) row → Goal row (left_by row)
+    by_row : (row : HeapStep R) → Before row → FitsHeap m.rows p.heap (at row) (does.Heap row) → Goal row (left_by row)
     by_row row before fits = grind (arith, class_row, freed, frees, gets, gets_span, gives_back, new, pages_holding, unbacks)
 
-    by_step : (row : HeapStep R) → Is l → l.step ≡ does.Heap row → FitsHeap m.rows p.heap l row → Leaves l (heap_row r.calls p.heap l row)
+    by_step : (row : HeapStep R) → Is l → l.step ≡ does.Heap row → FitsHeap m.rows p.heap l (does.Heap row) → Leaves l (heap_after r.calls p.heap l (does.Heap row))
     by_step row before step fits =
         let is : at row ≡ l = ap (λ s. record l { step = s }) (sym step) in
-        subst (λ (x : Local V R). Is x → FitsHeap m.rows p.heap x row → Leaves x (heap_row r.calls p.heap x row)) is (by_row row) before fits
+        subst (λ (x : Local V R). Is x → FitsHeap m.rows p.heap x (does.Heap row) → Leaves x (heap_after r.calls p.heap x (does.Heap row))) is (by_row row) before fits
 
   pub heap_acts_move : HeapActsMove r about planned
   heap_acts_move = by_step

@@ -1,16 +1,18 @@
 -- How a call goes on leaves the local its shape, and the front-end's invariant holds of the thread as it stands then.
 use Rattle.std.proofs.Common.{◌≡◌, ℕ, ◌+◌, ◌<◌, ◌≤◌, List, [], ◌∷◌, length, drop, Option, Some, None, refl, ap, ◌∙◌, arith, Bool}
 use Rattle.std.proofs.Common.{cond, ltb, All, slice_set, option_map}
-use Rattle.alloc_rules.proofs.Common.{length-drop, All-head, All-tail, Contents, class_of, ClassRow, position_or_len, ltb-true, Addr, Class, Label, ThreadNo}
+use Rattle.alloc_rules.proofs.Common.{length-drop, All-head, All-tail, Contents, class_of, ClassRow, position_or_len, ltb-true, Addr, Class, Label, ThreadNo, regs_of_call, at_hand}
 use Rattle.alloc_rules.proofs.Common.{SpanRef, Call, Malloc, Planned, Block, Regs, HAND_ROOM, LOADED_ROOM, room, without_first, Asking, Serving, Giving, Onward}
-use Rattle.alloc_rules.proofs.Common.{Step, Local, step_or, class_row, first_of_malloc, first_of_call, regs_of_malloc, fresh_regs, next_call, decided, goes}
-use Rattle.alloc_rules.proofs.Common.{closes, ends, publishes, stocks, serves_first, goes_onward, gave, clears, given_back, to_hand, About, HasNoLabel, AreRows}
-use Rattle.alloc_rules.proofs.Common.{At, Here, Later, Away, Standing, stand, at_row, at_giving, at_onward, at_step, standing_of, HandAbout, HasNone, IsGiving}
+use Rattle.alloc_rules.proofs.Common.{Step, Local, step_or, class_row, first_of_call, next_call, decided, goes}
+use Rattle.alloc_rules.proofs.Common.{ends, publishes, stock_regs, stock_step, serves_first, gave, clears, given_back, to_hand, About, HasNoLabel, AreRows}
+use Rattle.alloc_rules.proofs.Common.{At, Here, Later, Away, Standing, stand, at_row, at_step, standing_of, HandAbout, HasNone, IsGiving}
 use Rattle.alloc_rules.proofs.Common.{IsOnward, StepShape, IsShaped, IsOwn, IsLawful, FrontRules, IsEntry, KeepsHand}
 use Rattle.tc_units.specs.Classes as classes
 use Rattle.call_steps.specs.declared.step.Step.TheVariants as does
 use Rattle.call_steps.specs.declared.step.NamesStep.TheVariants as names
 use Rattle.call_steps.specs.Calls as calls
+use Rattle.call_steps.specs.Rows as has
+use Rattle.alloc_rules.proofs.ScriptFacts.{closes, first_of_malloc, regs_of_malloc}
 
 -- the class of a request is in the table
 class_low_by : (n len : ℕ) (k : Class) (b : Bool) → ltb n len ≡ b → option_map (λ (j : ℕ). let c : Class = record { 0 = j } in c) (cond b (Some n) None) ≡ Some k → k.0 < len
@@ -25,10 +27,10 @@ NotHere (Here row) = ⊥
 NotHere (Later k row) = Unit {0}
 NotHere Away = Unit {0}
 
-pub giving_not : {R : Type 0} (g : Giving R) → NotHere (at_giving g)
+pub giving_not : {R : Type 0} (g : Giving R) → NotHere (at_hand (has.Gives g))
 giving_not g = grind arith
 
-pub onward_not : {R : Type 0} (o : Onward R) → NotHere (at_onward o)
+pub onward_not : {R : Type 0} (o : Onward R) → NotHere (at_hand (has.GivesSpans o))
 onward_not o = grind arith
 
 module _ {P V R : Type 0} {r : FrontRules P V R} {about : R → About} {planned : Planned → Type 0} {Holds : ℕ → List P → List (Standing V R) → Type 0}
@@ -140,7 +142,7 @@ module _ {P V R : Type 0} {r : FrontRules P V R} {about : R → About} {planned 
     own_next call is own = grind (arith, begun, entry_at, entry_shape, fresh_next)
 
     call_next : (call : Call) → p.call ≡ call
-        → IsNext (idle_at l) (record l { seat = v; step = first_of_call r.calls v call; regs = fresh_regs r.calls call l.regs; rest = rest })
+        → IsNext (idle_at l) (record l { seat = v; step = first_of_call r.calls v call; regs = record (regs_of_call r.calls call l.regs) { ran = 0 }; rest = rest })
     call_next call is = grind (arith, fresh_next, malloc_next, own_next, restarted)
 
   -- the thread comes to the first of these calls
@@ -155,11 +157,13 @@ module _ {P V R : Type 0} {r : FrontRules P V R} {about : R → About} {planned 
   closes_next l o entry c n reaches = grind (arith, come_next, shape_of)
 
   pub ends_next : (l : Local V R) → Common l → HasNone l → IsNext (away_at l) (ends r.calls l)
-  ends_next l c n = grind (arith, closes_next)
+  ends_next l c n =
+      closes_next (record l { acts = l.acts + 1 }) (r.calls.last l.seat) (law.entries.last_about l.seat) c (record { hand = n.hand; freed = n.freed })
+      (λ k ps us holds. law.lasts k ps us t l.seat l.regs (l.acts + 1) n.hand holds)
 
   -- an allocation goes on with what came to its hand
   stocks_next : (l : Local V R) (s : Serving) (others : List Addr) → l.regs.hand.items ≡ others → length others ≤ LOADED_ROOM → Common l → l.freed.items ≡ []
-      → IsNext (away_at l) (stocks r.calls l s others)
+      → IsNext (away_at l) (goes (record l { regs = stock_regs r.calls l.regs others }) (stock_step r.calls l.seat s others))
   stocks_next l s others is few c none = grind (arith, entry_at, entry_shape, kept_by, publishes_next, shape_of)
 
   pub serves_next : (l : Local V R) (a : Asking) (xs : List Addr) → l.regs.hand.items ≡ xs → 0 < length xs → length xs ≤ LOADED_ROOM → Common l
@@ -184,10 +188,10 @@ module _ {P V R : Type 0} {r : FrontRules P V R} {about : R → About} {planned 
 
   -- a thread behind which this is to come
   abbrev pub onward_at : Local V R → Onward R → Standing V R
-  onward_at l o = stand l.seat l.regs (l.acts + 1) (at_onward o)
+  onward_at l o = stand l.seat l.regs (l.acts + 1) (at_hand (has.GivesSpans o))
 
   -- what comes once no span is left to give back
-  onward_next : (l : Local V R) (o : Onward R) → Common l → HasNone l → IsOnward r.calls.rows about o → IsNext (onward_at l o) (goes_onward r.calls l o)
+  onward_next : (l : Local V R) (o : Onward R) → Common l → HasNone l → IsOnward r.calls.rows about o → IsNext (onward_at l o) (clears r.calls l o [])
   onward_next l o c n is = grind (arith, changed, ends_next, later_shape, publishes_next, shape_of)
 
   pub clears_next : (l : Local V R) (o : Onward R) (spans : List SpanRef) → l.freed.items ≡ spans → Common l → l.regs.hand.items ≡ []
@@ -196,10 +200,10 @@ module _ {P V R : Type 0} {r : FrontRules P V R} {about : R → About} {planned 
 
   -- the hand was given
   abbrev pub giving_at : Local V R → Giving R → Standing V R
-  giving_at l g = stand l.seat l.regs (l.acts + 1) (at_giving g)
+  giving_at l g = stand l.seat l.regs (l.acts + 1) (at_hand (has.Gives g))
 
   pub gave_next : (l : Local V R) (g : Giving R) (hand : List Addr) → Common l → l.regs.hand.items ≡ [] → IsGiving r.calls.rows about hand g
-      → IsNext (giving_at l g) (gave r.calls l g)
+      → IsNext (giving_at l g) (gave r.calls l g l.freed.items)
   gave_next l g hand c none is = grind (arith, clears_next)
 
   pub given_back_next : (l : Local V R) (g : Giving R) (freed : Contents SpanRef) → Common l → length freed.items + freed.spare ≡ HAND_ROOM

@@ -1,11 +1,11 @@
 -- What the acts at the page map do to the books.
-use Rattle.std.proofs.Common.{◌≡◌, ℕ, ◌/◌, ◌<◌, true, List, [], ◌∷◌, ◌++◌, drop, Contains, refl, sym, ap, ◌∙◌, subst, inl, inr, arith}
-use Rattle.alloc_rules.proofs.Common.{append-nil, page_bytes, Addr, Label, Run, SpanRef, SpanKind, Small, Large, CallLine, SpanMap, holds, without_span}
+use Rattle.std.proofs.Common.{◌≡◌, ℕ, ◌/◌, ◌<◌, true, Option, List, [], ◌∷◌, ◌++◌, drop, Contains, refl, sym, ap, ◌∙◌, subst, inl, inr, arith, map, take, slice_get}
+use Rattle.alloc_rules.proofs.Common.{append-nil, page_bytes, Addr, Label, Run, SpanRef, SpanKind, Small, Large, CallLine, SpanMap, holds, without_span, goes, FreeSpan}
 use Rattle.alloc_rules.proofs.Common.{HeapConfig, find_there, address_of, run_of, large, small, spans_like, without, Account, Holds, Frees, WeighSame, Setup}
 use Rattle.alloc_rules.proofs.Common.{Books, class_number, Found, SetsRun, SetsSpan, FindsObject, FindsRun, ClearsRun, ClearsSpan, like_span, without_counts}
-use Rattle.alloc_rules.proofs.Common.{is_large, frees_find, Asking, Set, SetSpan, Lookup, Clear, ClearSpan, map_row, found, clears_span, FirstIsThere, FitsMap}
-use Rattle.alloc_rules.proofs.Common.{Planned, Local, About, about_onward, account_of, doing_about, first_run, AreEntries, FrontRules, Parts, Does, setup}
-use Rattle.alloc_rules.proofs.Common.{IsBefore, Contents, Class, Regs, appended, Freeing, Onward, MapStep, with_regs, MapActsMove, with_span, without_span}
+use Rattle.alloc_rules.proofs.Common.{is_large, frees_find, Asking, Set, SetSpan, Lookup, Clear, ClearSpan, map_after, found, FitsMap}
+use Rattle.alloc_rules.proofs.Common.{Planned, Local, About, about_onward, account_of, doing_about, AreEntries, FrontRules, Parts, Does, setup}
+use Rattle.alloc_rules.proofs.Common.{IsBefore, Contents, Class, Regs, appended, Freeing, Onward, MapStep, MapActsMove, with_span, IsSomeAnd, option_map_or}
 use Rattle.call_steps.specs.declared.step.Step.TheVariants as does
 use Rattle.call_steps.specs.declared.step.Giving.TheVariants as giving
 use Rattle.call_steps.specs.declared.step.ShardStep.TheVariants as shard
@@ -35,7 +35,7 @@ module _ {P V R : Type 0} (r : FrontRules P V R) (about : R → About) (planned 
     Goal row = Leaves (at row)
 
     abbrev left_by : MapStep R → SpanMap × Local V R
-    left_by row = map_row r.calls p.map (at row) row
+    left_by row = map_after r.calls p.map (at row) (does.Map row)
 
     -- nothing is decided
     silent : l.answers ≡ l.answers ++ []
@@ -66,10 +66,10 @@ module _ {P V R : Type 0} (r : FrontRules P V R) (about : R → About) (planned 
 
     -- the first of the spans that left a shard is cleared
     abbrev with_spans : Onward R → List SpanRef → Account
-    with_spans next xs = record (bare (doing_about (about_onward about next)) l.regs.class.0 l.regs.hand.items l.rest) { off = first_run xs; apart = xs; mapped = drop 1 xs }
+    with_spans next xs = record (bare (doing_about (about_onward about next)) l.regs.class.0 l.regs.hand.items l.rest) { off = map run_of (take 1 xs); apart = xs; mapped = drop 1 xs }
 
-    clears_first : (next : Onward R) → Before (ClearSpan next) → (xs : List SpanRef) → l.freed.items ≡ xs → FirstIsThere p.map xs
-        → Goal (ClearSpan next) (clears_span p.map (at (ClearSpan next)) next xs)
+    clears_first : (next : Onward R) → Before (ClearSpan next) → (xs : List SpanRef) → l.freed.items ≡ xs → IsSomeAnd (slice_get xs 0) (Contains p.map.spans)
+        → Goal (ClearSpan next) (option_map_or {U = SpanMap × Local V R} (λ (s : SpanRef). (record p.map { spans = without_span s p.map.spans }, goes (at (ClearSpan next)) (does.Heap (FreeSpan next)))) (slice_get xs 0) (p.map, (at (ClearSpan next))))
     clears_first next before [] is there = absurd there
     clears_first next before (s ∷ others) is there =
         let own : List SpanRef → Account = λ xs. record (account_of about (at (ClearSpan next))) { off = run_of s ∷ []; apart = xs; mapped = others } in
@@ -102,7 +102,7 @@ module _ {P V R : Type 0} (r : FrontRules P V R) (about : R → About) (planned 
         let g : Regs = r.calls.to_free found in
         let kept = entries.to_free found in
         let now : ℕ → List Addr → Account = λ j h. bare (Frees label addr) j h l.rest in
-        let account = entry_is about (with_regs (at (Lookup label addr)) g) (does.Shard (shard.Give (giving.Freed f))) (calls_are.Frees f) (r.calls.free l.seat f) (entries.free_about l.seat f) refl
+        let account = entry_is about (record (at (Lookup label addr)) { regs = g }) (does.Shard (shard.Give (giving.Freed f))) (calls_are.Frees f) (r.calls.free l.seat f) (entries.free_about l.seat f) refl
         ∙ (ap (λ (c : Class). now c.0 g.hand.items) kept.class ∙ (ap (λ (h : Contents Addr). now k.0 h.items) kept.hand ∙ ap (λ (h : List Addr). now k.0 (h ++ addr ∷ [])) none)) in
         leaves before.books p.heap p.map (λ ns. ns)
         (FindsObject label addr span k.0 _ refl none refl refl (omega (arith, span_counted span p.map.spans there, before.books.spans span)) held is
@@ -116,13 +116,19 @@ module _ {P V R : Type 0} (r : FrontRules P V R) (about : R → About) (planned 
         (FindsRun label x _ (ap (Holds label) begins) counted refl (weighs_is (after addr) (after (address_of x)) (ap after (sym begins))))
         before.books.heap before.books.spans refl silent
 
-    by_row : (row : MapStep R) → Before row → FitsMap p.map (at row) row → Goal row (left_by row)
-    by_row row before fits = grind (arith, clears_first, clears_run, find_there, finds, sets, sets_span)
+    by_row : (row : MapStep R) → Before row → FitsMap p.map (at row) (does.Map row) → Goal row (left_by row)
+    by_row (ClearSpan next) before fits = clears_first next before l.freed.items refl fits
+    by_row (Lookup label addr) before fits =
+        let there = find_there (holds (addr.0 / page_bytes)) p.map.spans fits.0 (sym fits.1) in
+        let x : Local V R = at (Lookup label addr) in
+        subst (λ (o : Option SpanRef). Goal (Lookup label addr) (p.map, option_map_or (λ (s : SpanRef). found r.calls x label addr s s.kind) o x)) (sym fits.1)
+        (finds label addr fits.0 before there.0 there.1 fits.0.kind refl)
+    by_row row before fits = grind (arith, clears_run, sets, sets_span)
 
-    by_step : (row : MapStep R) → Is l → l.step ≡ does.Map row → FitsMap p.map l row → Leaves l (map_row r.calls p.map l row)
+    by_step : (row : MapStep R) → Is l → l.step ≡ does.Map row → FitsMap p.map l (does.Map row) → Leaves l (map_after r.calls p.map l (does.Map row))
     by_step row before step fits =
         let is : at row ≡ l = ap (λ s. record l { step = s }) (sym step) in
-        subst (λ (x : Local V R). Is x → FitsMap p.map x row → Leaves x (map_row r.calls p.map x row)) is (by_row row) before fits
+        subst (λ (x : Local V R). Is x → FitsMap p.map x (does.Map row) → Leaves x (map_after r.calls p.map x (does.Map row))) is (by_row row) before fits
 
   pub map_acts_move : MapActsMove r about planned
   map_acts_move = by_step

@@ -1,6 +1,6 @@
 -- A move over the books of the parts.
 use Rattle.std.proofs.Common.{◌≡◌, ℕ, ◌+◌, ◌++◌, ◌*◌, false, List, None, ap, find, is_some, arith}
-use Rattle.alloc_rules.proofs.Common.{cases_lt, lt-ltb, slice_get_past, page_bytes, pages_holding, class_of, length_by, length_of, Run}
+use Rattle.alloc_rules.proofs.Common.{cases_lt, lt-ltb, slice_get_past, page_bytes, pages_holding, class_of, length_of, option_map_or, Run}
 use Rattle.alloc_rules.proofs.Common.{SpanRef, ClassRow, NameState, Setup, Books, Said, Move, Parts, AreBooksOf, About}
 use Rattle.alloc_rules.proofs.Common.{FrontRules, SpanMap, Local, Does, account_of, decided_at, runs_like, spans_like}
 use Rattle.std.proofs.lemmas.List.Folds.{find_at}
@@ -31,4 +31,4 @@ pub no_row : (rows : List ClassRow) (size : ℕ) → is_some (class_of rows size
 no_row rows size none = grind (arith, cases_lt, find_at, lt-ltb, slice_get_past)
 
 pub no_row_length : (rows : List ClassRow) (size : ℕ) → class_of rows size ≡ None → length_of rows size ≡ pages_holding size * page_bytes
-no_row_length rows size none = ap (λ row. length_by row size) (no_row rows size (ap is_some none))
+no_row_length rows size none = ap (λ row. option_map_or (λ (x : ClassRow). x.size) row (pages_holding size * page_bytes)) (no_row rows size (ap is_some none))

@@ -1,11 +1,11 @@
 -- The acts at the heap, the map and the names fit.
 use Rattle.std.proofs.Common.{◌≡◌, ℕ, zero, suc, ◌/◌, ◌^◌, ◌<◌, ◌≤◌, eqb, List, [], ◌∷◌, length, get_or, All, Contains, Some, None, refl, sym, ap, ◌∙◌}
 use Rattle.std.proofs.Common.{arith, find, slice_get}
-use Rattle.alloc_rules.proofs.Common.{eq-eqb, le-leb, get_or_default, page_bytes, class_of, Addr, Label, Run, SpanRef, SpanKind, Small, Large, ClassRow}
+use Rattle.alloc_rules.proofs.Common.{eq-eqb, le-leb, get_or_default, page_bytes, class_of, Addr, Label, Run, SpanRef, SpanKind, Small, Large, ClassRow, off_of}
 use Rattle.alloc_rules.proofs.Common.{CallLine, NameState, state_of, HeapConfig, run_of, large, bit, same_run, same_span, runs_like, spans_like, unpublished}
 use Rattle.alloc_rules.proofs.Common.{untaken, is_out, is_taken, Setup, Books, Found, IsOff, least, same_run_refl, same_span_refl, one_number}
-use Rattle.alloc_rules.proofs.Common.{offs_live, mapped_are_there, clears_are_there, frees_find, NamesStep, no_class, class_row, Local, FitsNames, FirstLives}
-use Rattle.alloc_rules.proofs.Common.{FirstIsThere, FitsHeap, FitsMap, IsClassRow, AreRows, Parts, first_run, account_of, IsBefore, setup, All-contains}
+use Rattle.alloc_rules.proofs.Common.{offs_live, mapped_are_there, clears_are_there, frees_find, NamesStep, no_class, class_row, Local, FitsNames}
+use Rattle.alloc_rules.proofs.Common.{FitsHeap, FitsMap, IsClassRow, AreRows, Parts, account_of, IsBefore, setup, All-contains, IsSomeAnd}
 use Rattle.alloc_rules.proofs.Common.{Planned, About, AreEntries, FrontRules, Step, Onward, HeapStep, MapStep, IsKindThere, IsFoundClass}
 use Rattle.page_map.specs.Spans as maps
 use Rattle.name_table.specs.declared.table.NameState.TheVariants as name
@@ -55,12 +55,12 @@ module _ {P V R : Type 0} (r : FrontRules P V R) (about : R → About) (planned 
     alone r rest = let e : bit (same_run r r) ≡ 1 = ap bit (same_run_refl r) in omega (arith, e)
 
     -- the first of the spans to give back
-    first_lives : (next : Onward R) (before : Before (does.Heap (heap.FreeSpan next))) (xs : List SpanRef) → l.freed.items ≡ xs → 0 < length xs → FirstLives p.heap xs
+    first_lives : (next : Onward R) (before : Before (does.Heap (heap.FreeSpan next))) (xs : List SpanRef) → l.freed.items ≡ xs → 0 < length xs → IsSomeAnd (slice_get xs 0) (λ (x : SpanRef). Contains p.heap.runs (run_of x))
     first_lives next before [] is some = absurd (omega arith)
-    first_lives next before (s ∷ others) is some = lives (does.Heap (heap.FreeSpan next)) before (run_of s) (omega (arith, alone (run_of s) [], ap (λ xs. runs_like (run_of s) (first_run xs)) is))
+    first_lives next before (s ∷ others) is some = lives (does.Heap (heap.FreeSpan next)) before (run_of s) (omega (arith, alone (run_of s) [], ap (λ xs. runs_like (run_of s) (off_of xs (does.Heap (heap.FreeSpan next)))) is))
 
     pub heap_fits : (row : HeapStep R) → Before (does.Heap row) → ((label : Label) (size : ℕ) → row ≡ heap.New label size → size ≤ 2 ^ 40)
-        → FitsHeap m.rows p.heap (at (does.Heap row)) row
+        → FitsHeap m.rows p.heap (at (does.Heap row)) (does.Heap row)
     heap_fits (heap.New label size) before bound = (let some = some_size m.rows size before.rows.some before.shaped.step.1 in omega (arith, some), bound label size refl)
     heap_fits (heap.NewSpan a) before bound = (before.shaped.class, (row_at_class m.rows l before.rows before.shaped.class).pages)
     heap_fits (heap.GiveBack label run) before bound = lives (does.Heap (heap.GiveBack label run)) before run (alone run [])
@@ -101,7 +101,7 @@ module _ {P V R : Type 0} (r : FrontRules P V R) (about : R → About) (planned 
         kind_there f.0 before span.kind (ap (λ (s : SpanRef). s.kind) same)
     found_class row before = tt
 
-    first_is_there : (next : Onward R) (before : Before (does.Map (map.ClearSpan next))) (xs : List SpanRef) → l.freed.items ≡ xs → 0 < length xs → FirstIsThere p.map xs
+    first_is_there : (next : Onward R) (before : Before (does.Map (map.ClearSpan next))) (xs : List SpanRef) → l.freed.items ≡ xs → 0 < length xs → IsSomeAnd (slice_get xs 0) (Contains p.map.spans)
     first_is_there next before [] is some = absurd (omega arith)
     first_is_there next before (s ∷ others) is some =
         let step : Step R = does.Map (map.ClearSpan next) in
@@ -109,7 +109,7 @@ module _ {P V R : Type 0} (r : FrontRules P V R) (about : R → About) (planned 
         let h = mapped_are_there m b calls t (account_of about (at step)) s before.facts (mine step before) (omega (arith, e, ap (spans_like s) is)) in
         span_there s p.map.spans (omega (arith, h.there, before.books.spans s))
 
-    pub map_fits : (row : MapStep R) → Before (does.Map row) → FitsMap p.map (at (does.Map row)) row
+    pub map_fits : (row : MapStep R) → Before (does.Map row) → FitsMap p.map (at (does.Map row)) (does.Map row)
     map_fits (map.Set label run) before = (set_inside _ before run Large (alone run []), set_apart _ before run Large (alone run []))
     map_fits (map.SetSpan a run) before = (set_inside _ before run (Small l.regs.class) (alone run []), set_apart _ before run (Small l.regs.class) (alone run []))
     map_fits (map.Lookup label addr) before =
@@ -123,7 +123,7 @@ module _ {P V R : Type 0} (r : FrontRules P V R) (about : R → About) (planned 
         span_there (large run) p.map.spans (omega (arith, clears_are_there m b calls t (account_of about (at s)) run before.facts (mine s before) (omega (arith, e)), before.books.spans (large run)))
     map_fits (map.ClearSpan next) before = first_is_there next before l.freed.items refl before.shaped.step.0.some
 
-    pub names_fits : (row : NamesStep) → Before (does.Names row) → FitsNames p.names row
+    pub names_fits : (row : NamesStep) → Before (does.Names row) → FitsNames {R = R} p.names (does.Names row)
     names_fits (names.Publish label value) before =
         let s : Step R = does.Names (names.Publish label value) in
         let own : bit (eqb label.0 label.0) ≡ 1 = ap bit (eq-eqb label.0 label.0 refl) in

@@ -1,16 +1,16 @@
 -- Each act goes on within its call, or ends it.
-use Rattle.std.proofs.Common.{◌≡◌, ℕ, ◌+◌, ◌/◌, true, false, List, [], ◌∷◌, ◌++◌, length, drop, Option, Some, None, refl, sym, ap, ◌∙◌, subst, arith, ◌<◌}
+use Rattle.std.proofs.Common.{◌≡◌, ℕ, ◌+◌, ◌/◌, true, false, List, [], ◌∷◌, ◌++◌, length, drop, Option, Some, None, refl, sym, ap, ◌∙◌, subst, arith, ◌<◌, Contains}
 use Rattle.std.proofs.Common.{◌*◌, find, slice_get}
-use Rattle.alloc_rules.proofs.Common.{false≢true, append-nil, length-append, page_bytes, pages_holding, Addr, Label, SpanRef, SpanKind, Small, Large, Call}
+use Rattle.alloc_rules.proofs.Common.{false≢true, append-nil, length-append, page_bytes, pages_holding, Addr, Label, SpanRef, SpanKind, Small, Large, Call, run_of, without_span}
 use Rattle.alloc_rules.proofs.Common.{Malloc, Free, Release, Answer, Block, NoBlock, Freed, FreedNull, Released, SpanMap, holds, NameState, state_of, Placed}
 use Rattle.alloc_rules.proofs.Common.{new, release, opening, without_first, emptied, appended, small, address_of, Regs, Freeing, Asking, Serving, NamesStep}
-use Rattle.alloc_rules.proofs.Common.{Local, step_or, Decided, first_act, decided, goes, closes, ends, class_row, with_hand, with_regs, stocks, serves_first}
-use Rattle.alloc_rules.proofs.Common.{goes_onward, gave, clears, with_freed, with_more, fetches, shard_row, after_new, after_new_span}
-use Rattle.alloc_rules.proofs.Common.{frees_span, without_first_span, heap_row, found, after_lookup, clears_span, map_row, after_take, names_row, waits_row}
-use Rattle.alloc_rules.proofs.Common.{front_row, is_unpublished, About, undecided, under, without_call, about_giving, about_onward, call_about, MayDecide}
-use Rattle.alloc_rules.proofs.Common.{MayGoOnDecided, Planned, says, goes_or_ends, follows, Onward, Giving, Next, Step, ShardStep, HeapStep, MapStep, FrontCalls}
-use Rattle.alloc_rules.proofs.Common.{AreEntries, FrontRules, IsEntry, FitsNames, FirstLives, FirstIsThere, FitsHeap, FitsMap, IsNext, IsAct, AddsSome}
-use Rattle.alloc_rules.proofs.Common.{GoesOn, Closes, Path, Stays, Comes, is_under_way}
+use Rattle.alloc_rules.proofs.Common.{Local, step_or, Decided, first_act, decided, goes, ends, class_row, with_hand, stock_regs, stock_step, serves_first}
+use Rattle.alloc_rules.proofs.Common.{gave, clears, with_more, fetches, shard_after, after_new, after_new_span}
+use Rattle.alloc_rules.proofs.Common.{frees_span, heap_after, found, map_after, after_take, names_after, waits_for}
+use Rattle.alloc_rules.proofs.Common.{front_after, is_unpublished, About, undecided, under, without_call, about_giving, about_onward, call_about, MayDecide}
+use Rattle.alloc_rules.proofs.Common.{MayGoOnDecided, Planned, follows, Onward, Giving, Next, Step, ShardStep, HeapStep, MapStep, FrontCalls}
+use Rattle.alloc_rules.proofs.Common.{AreEntries, FrontRules, IsEntry, FitsNames, FitsHeap, FitsMap, IsNext, IsAct, AddsSome}
+use Rattle.alloc_rules.proofs.Common.{GoesOn, Closes, Path, Stays, Comes, is_under_way, IsSomeAnd, option_map_or}
 use Rattle.name_table.specs.declared.table.NameState.TheVariants as name
 use Rattle.heap_rules.specs.Heap as heaps
 use Rattle.class_shard.specs.Shard as shards
@@ -23,9 +23,11 @@ use Rattle.call_steps.specs.declared.step.HeapStep.TheVariants as heap
 use Rattle.call_steps.specs.declared.step.MapStep.TheVariants as map
 use Rattle.call_steps.specs.declared.step.NamesStep.TheVariants as names
 use Rattle.call_steps.specs.Calls as calls
+use Rattle.alloc_rules.proofs.ScriptFacts.{closes}
 
-first_some : (h : heaps.Heap) (xs : List SpanRef) → FirstLives h xs → 0 < length xs
-first_some h xs lives = grind arith
+first_some : (h : heaps.Heap) (xs : List SpanRef) → IsSomeAnd (slice_get xs 0) (λ (x : SpanRef). Contains h.runs (run_of x)) → 0 < length xs
+first_some h [] lives = absurd lives
+first_some h (s ∷ others) lives = omega arith
 
 -- a local that has decided no more
 record Keeps {V R : Type 0} (l x : Local V R) : Type 0 where
@@ -84,16 +86,16 @@ module _ {V R : Type 0} {e : FrontCalls V R} {about : R → About} (entries : Ar
 
   -- a step that is a row of the front-end or another one
   rested : {x : Local V R} {new : List Decided} (s : Serving) (o : Option R) → IsEntry about (calls.Publishes s) o → IsFrom l x new → Of about l.step None new
-      → Path e about l (goes (with_regs x (e.to_rest x.regs)) (step_or (does.Shard (shard.Give (giving.Rest s))) o))
+      → Path e about l (goes (record x { regs = e.to_rest x.regs }) (step_or (does.Shard (shard.Give (giving.Rest s))) o))
   rested {new = new} s None entry from of = Stays new from.answers from.ended from.rest refl (goes_of e about l.step (does.Shard (shard.Give (giving.Rest s))) refl new of)
   rested {new = new} s (Some row) entry from of = Stays new from.answers from.ended from.rest refl (enters e about l.step row (calls.Publishes s) entry new of)
 
   -- the hand is the answer's, and the rest's
-  stocked : {x : Local V R} {new : List Decided} (s : Serving) (others : List Addr) → IsFrom l x new → Of about l.step None new → Path e about l (stocks e x s others)
+  stocked : {x : Local V R} {new : List Decided} (s : Serving) (others : List Addr) → IsFrom l x new → Of about l.step None new → Path e about l (goes (record x { regs = stock_regs e x.regs others }) (stock_step e x.seat s others))
   stocked s [] from of = go (does.Names (names.Publish s.label (Some s.addr))) from refl of
   stocked {x} s (a ∷ others) from of = rested s (e.rest x.seat s) (entries.rest_about x.seat s) from of
 
-  goes_to : {x : Local V R} {new : List Decided} (next : Onward R) → IsFrom l x new → Of about l.step (call_about (about_onward about next)) new → Path e about l (goes_onward e x next)
+  goes_to : {x : Local V R} {new : List Decided} (next : Onward R) → IsFrom l x new → Of about l.step (call_about (about_onward about next)) new → Path e about l (clears e x next [])
   goes_to (onward.Publish s) from of = go (does.Names (names.Publish s.label (Some s.addr))) from refl of
   goes_to {new = new} (onward.Row k row) from of = Stays new from.answers from.ended from.rest refl (goes_of e about l.step (does.Front row) refl new of)
   goes_to onward.End from of = over from of
@@ -104,14 +106,14 @@ module _ {V R : Type 0} {e : FrontCalls V R} {about : R → About} (entries : Ar
   cleared next (s ∷ others) from of = go (does.Map (map.ClearSpan next)) from refl of
 
   -- an allocation is served by what is in hand
-  served : {x : Local V R} (a : Asking) (hand : List Addr) → Keeps l x → 0 < length hand → Of about l.step (Some (calls.asks a)) [] → Path e about l (serves_first e x a hand)
+  served : {x : Local V R} (a : Asking) (hand : List Addr) → Keeps l x → 0 < length hand → Of about l.step (Some (Malloc a.label a.size)) [] → Path e about l (serves_first e x a hand)
   served a [] kept some of = absurd (omega arith)
   served {x} a (o ∷ others) kept some of =
       let kept' : Keeps l (with_hand x (without_first 1 x.regs.hand)) = record { answers = kept.answers; ended = kept.ended; rest = kept.rest } in
       stocked (record { label = a.label; addr = o }) others (answered kept' (Malloc a.label a.size) (Block o (class_row e.rows x).size)) (of.0, refl)
 
   -- the hand was given, which decides a free
-  gave_path : {x : Local V R} (g : Giving R) → Keeps l x → Of about l.step (call_about (about_giving about g)) [] → Path e about l (gave e x g)
+  gave_path : {x : Local V R} (g : Giving R) → Keeps l x → Of about l.step (call_about (about_giving about g)) [] → Path e about l (gave e x g x.freed.items)
   gave_path {x} (giving.Rest s) kept of = cleared (onward.Publish s) x.freed.items (same kept) of
   gave_path {x} (giving.Freed f) kept of = cleared onward.End x.freed.items (answered kept (Free f.label) (Freed f.addr)) (of.0, refl)
   gave_path {x} (giving.Row k row) kept of = cleared (onward.Row k row) x.freed.items (same kept) of
@@ -119,7 +121,7 @@ module _ {V R : Type 0} {e : FrontCalls V R} {about : R → About} (entries : Ar
 
   -- a call without a label is decided, and goes on or ends
   decides_path : {x : Local V R} (a : About) (answer : Answer) (row : Option R) → Keeps l x → Of about l.step (call_about a) [] → MayDecide a answer → MayGoOnDecided about row
-      → Path e about l (goes_or_ends e (says x (call_about a) answer) row)
+      → Path e about l (follows e x (call_about a) (next.Decide answer row))
   decides_path (calls.Other (Some call)) answer None kept of decides may = ends_deciding kept call answer of.0
   decides_path (calls.Other (Some call)) answer (Some row) kept of decides may = go (does.Front row) (answered kept call answer) refl (of.0, ap call_about may)
   decides_path a answer row kept of decides may = absurd decides
@@ -146,7 +148,7 @@ module _ {P V R : Type 0} (r : FrontRules P V R) {about : R → About} (entries 
   follows_path next.End may = over entries (same kept) (now (sym may.0))
 
 pub front_path : {P V R : Type 0} (r : FrontRules P V R) (about : R → About) (entries : AreEntries r.calls about) (l : Local V R) (q : P) (row : R) → l.step ≡ does.Front row
-    → IsAct r about q l.regs row (r.acts q l.seat l.regs row) → Path r.calls about l (front_row r about q l row).1
+    → IsAct r about q l.regs row (r.acts q l.seat l.regs row) → Path r.calls about l (front_after r about q l (does.Front row)).1
 front_path r about entries l q row step act =
     let x = r.acts q l.seat l.regs row in
     follows_path r entries {l = l} {x = record l { seat = x.seat; regs = x.regs }} row l.regs (record { answers = refl; ended = refl; rest = refl })
@@ -178,9 +180,9 @@ module _ {V R : Type 0} (e : FrontCalls V R) (about : R → About) (entries : Ar
   free_path : (h : heaps.Heap) (next : Onward R) (xs : List SpanRef) → 0 < length xs → From (does.Heap (heap.FreeSpan next)) (frees_span e h (on_heap (heap.FreeSpan next)) next xs).1
   free_path h next [] some = absurd (omega arith)
   free_path h next (s ∷ others) some =
-      cleared entries {x = with_freed (on_heap (heap.FreeSpan next)) (without_first_span l.freed others)} next others (record { answers = silent; ended = refl; rest = refl }) (refl, refl)
+      cleared entries {x = record (on_heap (heap.FreeSpan next)) { freed = record { items = others; spare = l.freed.spare + 1 } }} next others (record { answers = silent; ended = refl; rest = refl }) (refl, refl)
 
-  pub heap_path : (h : heaps.Heap) (row : HeapStep R) → FitsHeap e.rows h (on_heap row) row → From (does.Heap row) (heap_row e h (on_heap row) row).1
+  pub heap_path : (h : heaps.Heap) (row : HeapStep R) → FitsHeap e.rows h (on_heap row) (does.Heap row) → From (does.Heap row) (heap_after e h (on_heap row) (does.Heap row)).1
   heap_path h (heap.New label size) fits = new_path h label size (new h (pages_holding size))
   heap_path h (heap.NewSpan a) fits = span_path h a (new h (class_row e.rows l).pages)
   heap_path h (heap.GiveBack label run) fits = ends_deciding entries (keeps (on_heap (heap.GiveBack label run))) (Free label) (Freed (address_of run)) refl
@@ -205,15 +207,15 @@ module _ {V R : Type 0} (e : FrontCalls V R) (about : R → About) (entries : Ar
   found_path label addr span Large = Stays [] silent refl refl refl (refl, refl)
 
   lookup_path : (x : SpanMap) (label : Label) (addr : Addr) (o : Option SpanRef) → find (holds (addr.0 / page_bytes)) x.spans ≡ o
-      → FitsMap x (on_map (map.Lookup label addr)) (map.Lookup label addr) → From (does.Map (map.Lookup label addr)) (after_lookup e (on_map (map.Lookup label addr)) label addr o)
+      → FitsMap x (on_map (map.Lookup label addr)) (does.Map (map.Lookup label addr)) → From (does.Map (map.Lookup label addr)) (option_map_or (λ (s : SpanRef). found e (on_map (map.Lookup label addr)) label addr s s.kind) o (on_map (map.Lookup label addr)))
   lookup_path x label addr None is fits = let wrong : None ≡ Some fits.0 = sym is ∙ fits.1 in absurd (cc)
   lookup_path x label addr (Some span) is fits = found_path label addr span span.kind
 
-  clear_path : (x : SpanMap) (next : Onward R) (xs : List SpanRef) → FirstIsThere x xs → From (does.Map (map.ClearSpan next)) (clears_span x (on_map (map.ClearSpan next)) next xs).1
+  clear_path : (x : SpanMap) (next : Onward R) (xs : List SpanRef) → IsSomeAnd (slice_get xs 0) (Contains x.spans) → From (does.Map (map.ClearSpan next)) (option_map_or {U = SpanMap × Local V R} (λ (s : SpanRef). (record x { spans = without_span s x.spans }, goes (on_map (map.ClearSpan next)) (does.Heap (heap.FreeSpan next)))) (slice_get xs 0) (x, (on_map (map.ClearSpan next)))).1
   clear_path x next [] there = absurd there
   clear_path x next (s ∷ others) there = Stays [] silent refl refl refl (refl, refl)
 
-  pub map_path : (x : SpanMap) (row : MapStep R) → FitsMap x (on_map row) row → From (does.Map row) (map_row e x (on_map row) row).1
+  pub map_path : (x : SpanMap) (row : MapStep R) → FitsMap x (on_map row) (does.Map row) → From (does.Map row) (map_after e x (on_map row) (does.Map row)).1
   map_path x (map.Set label run) fits = Stays [] silent refl refl refl (refl, refl)
   map_path x (map.SetSpan a run) fits = Stays [] silent refl refl refl (refl, refl)
   map_path x (map.Lookup label addr) fits = lookup_path x label addr (find (holds (addr.0 / page_bytes)) x.spans) refl fits
@@ -231,7 +233,7 @@ module _ {V R : Type 0} (e : FrontCalls V R) (about : R → About) (entries : Ar
   take_path ns label (name.Published None) out fresh = ends_deciding entries (keeps (on_names (names.Take label))) (Free label) FreedNull refl
   take_path ns label (name.Published (Some addr)) out fresh = Stays [] silent refl refl refl (refl, refl)
 
-  pub names_path : (ns : List NameState) (row : NamesStep) → FitsNames ns row → waits_row ns row ≡ false → From (does.Names row) (names_row e ns (on_names row) row).1
+  pub names_path : (ns : List NameState) (row : NamesStep) → FitsNames {R = R} ns (does.Names row) → waits_for {R = R} ns (does.Names row) ≡ false → From (does.Names row) (names_after e ns (on_names row) (does.Names row)).1
   names_path ns (names.Publish label value) fits out = over entries (same (keeps (on_names (names.Publish label value)))) (refl, refl)
   names_path ns (names.Take label) fits out = take_path ns label (state_of ns label.0) out fits.1
 
@@ -245,12 +247,12 @@ module _ {V R : Type 0} (e : FrontCalls V R) (about : R → About) (entries : Ar
       let x : Local V R = with_more (on_shard (shard.Fetch a)) (o ∷ others) in
       served entries {x = x} a x.regs.hand.items (record { answers = refl; ended = refl; rest = refl }) (some_more l.regs.hand.items o others) (refl, refl)
 
-  pub shard_path : (s : shards.Shard) (row : ShardStep R) → AddsSome e.rows s (on_shard row) row → From (does.Shard row) (shard_row e s (on_shard row) row).1
+  pub shard_path : (s : shards.Shard) (row : ShardStep R) → AddsSome e.rows s (on_shard row) row → From (does.Shard row) (shard_after e s (on_shard row) (does.Shard row)).1
   shard_path s (shard.Fetch a) adds = fetch_path a (shards.fetched (class_row e.rows l).batch s)
   shard_path s (shard.AddFetch a run) adds =
       let came : List Addr = opening (small l.regs.class run) s.central.row.size (class_row e.rows l).batch in
       let x : Local V R = with_more (on_shard (shard.AddFetch a run)) came in
       served entries {x = x} a x.regs.hand.items (record { answers = refl; ended = refl; rest = refl }) (omega (arith, adds, length-append l.regs.hand.items came)) (refl, refl)
   shard_path s (shard.Give g) adds =
-      let x : Local V R = with_freed (with_hand (on_shard (shard.Give g)) (emptied l.regs.hand)) (appended l.freed (shards.freed_by l.regs.hand.items s)) in
+      let x : Local V R = record (with_hand (on_shard (shard.Give g)) (emptied l.regs.hand)) { freed = appended l.freed (shards.freed_by l.regs.hand.items s) } in
       gave_path entries {x = x} g (record { answers = refl; ended = refl; rest = refl }) (refl, refl)

@@ -2,9 +2,9 @@
 use Rattle.std.proofs.Common.{◌≡◌, ℕ, zero, suc, ◌+◌, ◌<◌, ◌≤◌, false, List, [], ◌∷◌, length, map, Some, refl, sym, ap, ◌∙◌, subst, arith, option_map}
 use Rattle.std.proofs.Common.{slice_get, slice_set}
 use Rattle.alloc_rules.proofs.Common.{Planned, PartNo, Asked, world_of, with_pair, Regs, Books, Step, ShardStep, HeapStep, MapStep, NamesStep, Local, About}
-use Rattle.alloc_rules.proofs.Common.{target_at, shard_row, heap_row, map_row, names_row, shard_after, heap_after, map_after, names_after, waits_for, front_row}
-use Rattle.alloc_rules.proofs.Common.{front_after, Part, Front, Heap, Map, Names, number_of, Parts, parts_of, after, waits, Standing, standing_of, FitsAt}
-use Rattle.alloc_rules.proofs.Common.{IsLawful, FrontRules, Fits, fits_step, FitsShardStep, FitsHeapStep, FitsMapStep, FitsNamesStep, FitsFrontStep, IsValid}
+use Rattle.alloc_rules.proofs.Common.{target_at, shard_after, heap_after, map_after, names_after, waits_for, front_after}
+use Rattle.alloc_rules.proofs.Common.{Part, Front, Heap, Map, Names, number_of, Parts, parts_of, after, waits, Standing, standing_of, FitsAt}
+use Rattle.alloc_rules.proofs.Common.{IsLawful, FrontRules, Fits, fits_step, FitsShard, FitsHeap, FitsMap, FitsNames, FitsFront, IsValid}
 use Rattle.alloc_rules.specs.declared.part.Part.TheVariants.{Shard}
 use Rattle.class_shard.specs.Shard as shards
 use Rattle.call_steps.specs.declared.step.Step.TheVariants as does
@@ -67,10 +67,10 @@ module _ {P V R : Type 0} {r : FrontRules P V R} {about : R → About} {planned 
       (stands_row law valid now row step) (ready_row law valid now row step) in
       let q : P = q0.part in
       subst Reached (ap (λ (k : ℕ). front_number r.split k i) classes_are)
-      (at_part (front_number r.split (length p.shards) i) (Front q) _ (front_row r about q l row).1 _ (get_front r.split p split_few i ∙ ap (option_map Front) q0.there)
-      (subst (FitsFrontStep fits q l) (sym step) q0.fit) (λ goes. front_acted law valid now row q step q0.there)
+      (at_part (front_number r.split (length p.shards) i) (Front q) _ (front_after r about q l (does.Front row)).1 _ (get_front r.split p split_few i ∙ ap (option_map Front) q0.there)
+      (subst (FitsFront fits q l) (sym step) q0.fit) (λ goes. front_acted law valid now row q step q0.there)
       (ap (λ (s : Step R). let z : Part P × Local V R = (Front (front_after r about q l s).0, (front_after r about q l s).1) in z) step)
-      (set_front r.split p split_few i (front_row r about q l row).0))
+      (set_front r.split p split_few i (front_after r about q l (does.Front row)).0))
 
   shard_reached : (row : ShardStep R) → l.step ≡ does.Shard row → Reached (r.split + l.regs.class.0)
   shard_reached row step =
@@ -78,35 +78,35 @@ module _ {P V R : Type 0} {r : FrontRules P V R} {about : R → About} {planned 
       let low : k < length p.shards = omega (arith, classes_are, (now.works t l now.local).shaped.class) in
       let found = there_is p.shards k low in
       let x : shards.Shard = found.0 in
-      at_part (r.split + k) (Shard x) _ (shard_row r.calls x l row).1 _ (get_shard r.split p split_few k low ∙ ap (option_map Shard) found.1)
-      (subst (FitsShardStep r.calls.rows x l) (sym step) (shard_fit law valid now row x step found.1)) (λ goes. shard_acted law valid now row x step found.1)
+      at_part (r.split + k) (Shard x) _ (shard_after r.calls x l (does.Shard row)).1 _ (get_shard r.split p split_few k low ∙ ap (option_map Shard) found.1)
+      (subst (FitsShard r.calls.rows x l) (sym step) (shard_fit law valid now row x step found.1)) (λ goes. shard_acted law valid now row x step found.1)
       (ap (λ (s : Step R). let z : Part P × Local V R = (Shard (shard_after r.calls x l s).0, (shard_after r.calls x l s).1) in z) step)
-      (set_shard r.split p split_few k (shard_row r.calls x l row).0 low)
+      (set_shard r.split p split_few k (shard_after r.calls x l (does.Shard row)).0 low)
 
   heap_reached : (row : HeapStep R) → l.step ≡ does.Heap row → Reached (r.split + length r.calls.rows)
   heap_reached row step =
       subst Reached (ap (λ (n : ℕ). r.split + n) classes_are)
-      (at_part (r.split + length p.shards) (Heap p.heap) _ (heap_row r.calls p.heap l row).1 _ (get_heap r.split p split_few)
-      (subst (FitsHeapStep r.calls.rows p.heap l) (sym step) (heap_fit law valid now row step)) (λ goes. heap_acted law valid now row step)
+      (at_part (r.split + length p.shards) (Heap p.heap) _ (heap_after r.calls p.heap l (does.Heap row)).1 _ (get_heap r.split p split_few)
+      (subst (FitsHeap r.calls.rows p.heap l) (sym step) (heap_fit law valid now row step)) (λ goes. heap_acted law valid now row step)
       (ap (λ (s : Step R). let z : Part P × Local V R = (Heap (heap_after r.calls p.heap l s).0, (heap_after r.calls p.heap l s).1) in z) step)
-      (set_heap r.split p split_few (heap_row r.calls p.heap l row).0))
+      (set_heap r.split p split_few (heap_after r.calls p.heap l (does.Heap row)).0))
 
   map_reached : (row : MapStep R) → l.step ≡ does.Map row → Reached (r.split + length r.calls.rows + 1)
   map_reached row step =
       subst Reached (ap (λ (n : ℕ). r.split + n + 1) classes_are)
-      (at_part (r.split + length p.shards + 1) (Map p.map) _ (map_row r.calls p.map l row).1 _ (get_map r.split p split_few)
-      (subst (FitsMapStep p.map l) (sym step) (map_fit law valid now row step)) (λ goes. map_acted law valid now row step)
+      (at_part (r.split + length p.shards + 1) (Map p.map) _ (map_after r.calls p.map l (does.Map row)).1 _ (get_map r.split p split_few)
+      (subst (FitsMap p.map l) (sym step) (map_fit law valid now row step)) (λ goes. map_acted law valid now row step)
       (ap (λ (s : Step R). let z : Part P × Local V R = (Map (map_after r.calls p.map l s).0, (map_after r.calls p.map l s).1) in z) step)
-      (set_map r.split p split_few (map_row r.calls p.map l row).0))
+      (set_map r.split p split_few (map_after r.calls p.map l (does.Map row)).0))
 
   names_reached : (row : NamesStep) → l.step ≡ does.Names row → Reached (r.split + length r.calls.rows + 2)
   names_reached row step =
       subst Reached (ap (λ (n : ℕ). r.split + n + 2) classes_are)
-      (at_part (r.split + length p.shards + 2) (Names p.names) _ (names_row r.calls p.names l row).1 _ (get_names r.split p split_few)
-      (subst (FitsNamesStep p.names) (sym step) (names_fit law valid now row step))
+      (at_part (r.split + length p.shards + 2) (Names p.names) _ (names_after r.calls p.names l (does.Names row)).1 _ (get_names r.split p split_few)
+      (subst (FitsNames p.names) (sym step) (names_fit law valid now row step))
       (λ goes. names_acted law valid now row step (ap (waits_for p.names) (sym step) ∙ goes))
       (ap (λ (s : Step R). let z : Part P × Local V R = (Names (names_after r.calls p.names l s).0, (names_after r.calls p.names l s).1) in z) step)
-      (set_names r.split p split_few (names_row r.calls p.names l row).0))
+      (set_names r.split p split_few (names_after r.calls p.names l (does.Names row)).0))
 
   at_place : (i : ℕ) (place : PartNo) → (let n : PartNo = record { 0 = i } in Some n) ≡ Some place → Reached i → Reached place.0
   at_place i place is reached = let e : (let n : PartNo = record { 0 = i } in n) ≡ place = cc in subst (λ (n : PartNo). Reached n.0) e reached

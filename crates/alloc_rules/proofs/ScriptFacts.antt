@@ -1,10 +1,22 @@
--- The first act of a call, over any front-end: it is of that call, and decides nothing before it is done.
+-- The first act of a call, over any front-end: it is of that call, and decides nothing before it is done. How a call ends.
 use Rattle.std.proofs.Common.{◌≡◌, ℕ, ◌+◌, true, List, drop, Option, Some, refl, arith, ◌<◌, is_some, option_map, slice_get, IfSome}
 use Rattle.alloc_rules.proofs.Common.{eq-eqb, class_of, Class, Label, Call, Malloc, Free, Release, Drain, Resize, Planned, asking, publishing, got, gets}
-use Rattle.alloc_rules.proofs.Common.{Step, FrontCalls, AreEntries, IsEntry, step_or, first_of_malloc, first_of_call, first_act, About, undecided}
-use Rattle.alloc_rules.proofs.Common.{under, call_about, IsOf, doing_of, doing_about, IsOwn, is_under_way}
+use Rattle.alloc_rules.proofs.Common.{Step, FrontCalls, AreEntries, IsEntry, step_or, first_of_call, first_act, About, undecided, option_map_or}
+use Rattle.alloc_rules.proofs.Common.{Asking, New, Regs, Local, next_call, under, call_about, IsOf, doing_of, doing_about, IsOwn, is_under_way}
 use Rattle.call_steps.specs.declared.step.Step.TheVariants as does
 use Rattle.call_steps.specs.declared.step.ShardStep.TheVariants as shard
+
+-- the first act of an allocation and its registers, by its class, if it has one
+abbrev pub first_of_malloc : {V R : Type 0} → FrontCalls V R → V → Option Class → Label → ℕ → Step R
+first_of_malloc e v k label size =
+    let a : Asking = record { label = label; size = size } in option_map_or (λ k. step_or (does.Shard (shard.Fetch a)) (e.first v a)) k (does.Heap (New label size))
+
+abbrev pub regs_of_malloc : {V R : Type 0} → FrontCalls V R → Option Class → Regs → Regs
+regs_of_malloc e k r = option_map_or (λ k. e.to_first (record r { class = k })) k r
+
+-- a call ends: a row of the front-end comes first, if there is one
+abbrev pub closes : {V R : Type 0} → FrontCalls V R → Local V R → Option R → Local V R
+closes e l row = option_map_or (λ row. record l { step = does.Front row }) row (next_call e (record l { ended = l.ended + 1 }) l.rest)
 
 -- a call that isn't decided isn't counted as one that is
 pub undecided_under : {R : Type 0} (about : R → About) (s : Step R) → is_some (undecided about s) ≡ true → under about s ≡ 0

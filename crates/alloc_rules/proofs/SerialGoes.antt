@@ -1,8 +1,8 @@
 -- The thread of the earliest call that hasn't ended never waits.
 use Rattle.std.proofs.Common.{◌≡◌, ℕ, ◌+◌, ◌<◌, ◌≤◌, Bool, true, false, eqb, ltb, cond, List, [], ◌∷◌, ◌++◌, length, get_or, map, Option, Some}
 use Rattle.std.proofs.Common.{None, refl, sym, ap, ◌∙◌, subst, arith, inl, inr, option_map, slice_get}
-use Rattle.alloc_rules.proofs.Common.{cases_lt, cases_eq, eq-eqb, ltb-true, ltb-false, eqb-true, slice_get-get_or, append_snoc, Label, PartNo, Call, Free}
-use Rattle.alloc_rules.proofs.Common.{Planned, Asked, ThreadCall, script_of, Rules, World, world_of, FitsThere, IsReady, stepped, done_by, done_in, picks_of}
+use Rattle.alloc_rules.proofs.Common.{option_map_or, cases_lt, cases_eq, eq-eqb, ltb-true, ltb-false, eqb-true, slice_get-get_or, append_snoc, Label, PartNo, Call, Free}
+use Rattle.alloc_rules.proofs.Common.{Planned, Asked, ThreadCall, script_of, Rules, World, world_of, FitsThere, IsReady, stepped, done_in, picks_of}
 use Rattle.alloc_rules.proofs.Common.{next_turn, picks-cons, picks-push_same, picks-push_other, NameState, state_of, got, is_out, bit_is, undecided, About}
 use Rattle.alloc_rules.proofs.Common.{call_at, target_at, waits_for, Regs, Step, Local, Part, Names, number, number_of, Parts, parts_of, waits, first_of, rules}
 use Rattle.alloc_rules.proofs.Common.{turns, got_in, IsInOrder, IsValid, Standing, FrontRules, Fits, IsIn, is_under_way}
@@ -115,7 +115,7 @@ module _ {P V R : Type 0} (r : FrontRules P V R) (about : R → About) (planned 
         there = there;
         in_script = (works t l there).inside;
         at = ap (λ cs. call_at (script_of t cs) (picks_of t (turns_of before))) is ∙ ap (option_map (λ (q : Planned). q.call)) (script_at before c after);
-        ended = ap (done_by (rules r about asked)) there;
+        ended = ap (λ o. option_map_or (rules r about asked).done o 0) there;
       }
 
   module _ (ready : (t : ℕ) → IsReady (rules r about asked) (Fits r.calls.rows fits) w t) where

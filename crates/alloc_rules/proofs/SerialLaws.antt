@@ -1,8 +1,8 @@
 -- The laws of the completion of an order: threads, rising counts of ended calls, no wait, and the end of each script.
 use Rattle.std.proofs.Common.{◌≡◌, ℕ, zero, suc, ◌<◌, ◌≤◌, Bool, true, false, List, [], ◌∷◌, length, get_or, map, Option, Some, None, refl, sym, ap, ◌∙◌}
 use Rattle.std.proofs.Common.{subst, arith, slice_index, option_map, slice_get, is_some}
-use Rattle.alloc_rules.proofs.Common.{range_with_len, false≢true, length-map, length-range_with_len, slice_get-get_or, slice_get_past, Planned, Asked}
-use Rattle.alloc_rules.proofs.Common.{ThreadCall, script_of, Rules, World, world_of, IsReady, stepped, done_by, done_in, HaveEnded, next_turn, AreThreads}
+use Rattle.alloc_rules.proofs.Common.{option_map_or, range_with_len, false≢true, length-map, length-range_with_len, slice_get-get_or, slice_get_past, Planned, Asked}
+use Rattle.alloc_rules.proofs.Common.{ThreadCall, script_of, Rules, World, world_of, IsReady, stepped, done_in, HaveEnded, next_turn, AreThreads}
 use Rattle.alloc_rules.proofs.Common.{NeverWaits, Rises, Ends, call_at, Regs, Step, Local, About, Part, Standing, IsLawful, FrontRules, Parts, parts_of}
 use Rattle.alloc_rules.proofs.Common.{place_of, first_of, rules, turns, Fits, IsIn, is_under_way, IsValid}
 use Rattle.tc_model.proofs.RisesBy.{rises_by, turns_none}
@@ -53,7 +53,7 @@ module _ {P V R : Type 0} {r : FrontRules P V R} {about : R → About} {planned 
       let local : slice_get locals t ≡ Some l = slice_get-get_or locals t d within in
       let inside : IsIn r.calls about p.names (script_of t asked.calls) l = (works t l local).inside in
       let few = turns_none (done_in (rules r about asked) (world_of (parts_of r.split p) locals)) [] (turns asked) next (λ u. omega arith) t in
-      let done : done_in (rules r about asked) (world_of (parts_of r.split p) locals) t ≡ l.ended = ap (done_by (rules r about asked)) local in
+      let done : done_in (rules r about asked) (world_of (parts_of r.split p) locals) t ≡ l.ended = ap (λ o. option_map_or (rules r about asked).done o 0) local in
       let script : List Planned = script_of t asked.calls in
       let none : call_at script l.ended ≡ None = ap (option_map (λ (q : Planned). q.call)) (slice_get_past script l.ended (omega (arith, few, done, script_length t asked.calls))) in
       ended_by l l.step refl (no_way (is_under_way l.step) (call_at script l.ended) none inside.some)

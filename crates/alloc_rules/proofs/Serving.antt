@@ -1,9 +1,9 @@
 -- What holds of a world in every run, and what an act of a thread makes of it.
 use Rattle.std.proofs.Common.{◌≡◌, ℕ, suc, ◌+◌, ◌≤◌, true, eqb, List, [], ◌∷◌, ◌++◌, length, map, Option, Some, refl, sym, ap, ◌∙◌, subst}
 use Rattle.std.proofs.Common.{arith, All, slice_get, slice_set, inl, inr, ◌⊎◌}
-use Rattle.alloc_rules.proofs.Common.{MOST_PICKS, append-nil, length-set, length-append, map-append, filter-append, Planned, CallLine, Asked, script_of}
+use Rattle.alloc_rules.proofs.Common.{option_map_or, MOST_PICKS, append-nil, length-set, length-append, map-append, filter-append, Planned, CallLine, Asked, script_of}
 use Rattle.alloc_rules.proofs.Common.{World, world_of}
-use Rattle.alloc_rules.proofs.Common.{picks_of, answers_at, AreOfPicks, AreAt, AreBelow, AreRising, calls-step, picks-step, picks-push_same, picks-push_other}
+use Rattle.alloc_rules.proofs.Common.{picks_of, AreOfPicks, AreAt, AreBelow, AreRising, calls-step, picks-step, picks-push_same, picks-push_other}
 use Rattle.alloc_rules.proofs.Common.{NameState, state_of, Shard, Account, is_out, Books, Facts, Said, books_with, lines, Decided, told, Local, FrontCalls}
 use Rattle.alloc_rules.proofs.Common.{AreEntries, FrontRules, About, Part, heap_config, Parts, parts_of, HasRoom, lines_by, account_of, decided_at, stock_of}
 use Rattle.alloc_rules.proofs.Common.{ArePartsOk, AreBooksOf, Does, Standing, standing_of, IsShaped, IsIn, Path, Stays, Comes, under, is_under_way, calls, setup_of}
@@ -117,7 +117,7 @@ module _ {P V R : Type 0} {r : FrontRules P V R} {about : R → About} {planned 
 
     rises_now : AreRising (λ (x : Decided). x.act) 0 after.answers
     rises_now =
-        let B : Option (Local V R) → Type 0 = λ o. AreBelow (λ (x : Decided). x.act) (picks_of t order) (answers_at (λ (x : Local V R). x.answers) o) in
+        let B : Option (Local V R) → Type 0 = λ o. AreBelow (λ (x : Decided). x.act) (picks_of t order) (option_map_or (λ (x : Local V R). x.answers) o []) in
         let below : AreBelow (λ (x : Decided). x.act) (picks_of t order) l.answers = subst B now.local (now.of t) in
         let few : length (decided_at l.acts acted.does.said) ≤ 1 = omega (arith, decided_few l.acts acted.does.said, said_few (setup_of r asked) b (account_of about l) acted.does.move) in
         subst (AreRising (λ (x : Decided). x.act) 0) (sym acted.does.answers)

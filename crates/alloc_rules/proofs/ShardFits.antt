@@ -1,11 +1,11 @@
 -- The acts at a shard fit: a new span is apart from the others, and a hand that is given was taken there.
 use Rattle.std.proofs.Common.{◌≡◌, ℕ, ◌+◌, ◌<◌, ◌≤◌, ◌⊎◌, List, [], length, map, get_or, Some, ap, ◌∙◌, subst, arith, inl, inr, All, slice_get}
-use Rattle.alloc_rules.proofs.Common.{cases_lt, cond-true, eq-eqb, get_or-map, length-map, get_or-le-sum_by, get_or_from_slice_get, Addr, Run}
+use Rattle.alloc_rules.proofs.Common.{cases_lt, cond-true, eq-eqb, get_or-map, length-map, get_or-le-sum_by, get_or_from_slice_get, Addr, Run, first_shard}
 use Rattle.alloc_rules.proofs.Common.{SpanRef, CallLine, HeapConfig, SpanState, IsTakenIn, IsApartFrom, Shard, places, spans_in, objects_in_spans, found_at}
 use Rattle.alloc_rules.proofs.Common.{spans_cut, bit, small, same_span, objects_at, spans_like, Setup, Stock, Books, IsTaken, IsMapped, least}
 use Rattle.alloc_rules.proofs.Common.{same_span_refl, all_spans, one_number, hands_are_taken, mapped_are_there, Asking, Fetch, AddFetch, Give, no_class}
 use Rattle.alloc_rules.proofs.Common.{class_row, Local, FitsBatch, FitsShard, Planned, About, account_of, mapped_of, FrontRules, Parts, stock_of}
-use Rattle.alloc_rules.proofs.Common.{no_shard, shard_at, IsShardOf, setup, IsBefore, Step, ShardStep, IsClassRow, StepShape, ShardActsFit}
+use Rattle.alloc_rules.proofs.Common.{shard_at, IsShardOf, setup, IsBefore, Step, ShardStep, IsClassRow, StepShape, ShardActsFit}
 use Rattle.class_shard.proofs.CountedOnceDiffer.{once_differ}
 use Rattle.call_steps.specs.declared.step.Step.TheVariants as does
 use Rattle.alloc_rules.proofs.{Counting.objects_count, Freeing.account_at}
@@ -28,7 +28,7 @@ module _ {P V R : Type 0} {r : FrontRules P V R} {about : R → About} {planned 
     of_class = before.parts.shards l.regs.class.0 x at
 
     pub shard_is : shard_at p.shards l.regs.class.0 ≡ x
-    shard_is = get_or_from_slice_get p.shards l.regs.class.0 x no_shard at
+    shard_is = get_or_from_slice_get p.shards l.regs.class.0 x (first_shard 0 0 no_class) at
 
     pub row_is : class_row m.rows l ≡ x.central.row
     row_is = get_or_from_slice_get m.rows l.regs.class.0 x.central.row no_class of_class.row
@@ -78,7 +78,7 @@ module _ {P V R : Type 0} {r : FrontRules P V R} {about : R → About} {planned 
           | inr none ↦ omega (arith, none, objects_count n l.regs.hand.items)
         ]
 
-    fits_by : (row : ShardStep R) → l.step ≡ does.Shard row → StepShape m.rows about l (does.Shard row) → FitsShard m.rows x l row
+    fits_by : (row : ShardStep R) → l.step ≡ does.Shard row → StepShape m.rows about l (does.Shard row) → FitsShard m.rows x l (does.Shard row)
     fits_by (Fetch asking) is shape = (batch_fits shape.0.hand, shape.0.hand)
     fits_by (AddFetch asking run) is shape =
         let mapped = is_mapped asking run is in

@@ -1,13 +1,13 @@
 -- The acts at a shard move objects between it and the hand, and spans to it and from it.
 use Rattle.std.proofs.Common.{◌≡◌, ◌≢◌, ℕ, ◌+◌, ◌<◌, ◌≤◌, ◌^◌, eqb, List, [], ◌∷◌, ◌++◌, length, Some, refl, sym, ap, ◌∙◌, subst, arith}
 use Rattle.std.proofs.Common.{inl, inr, slice_get, slice_set}
-use Rattle.alloc_rules.proofs.Common.{cases_lt, get_or-set_same, get_or-set_other, length-set, All-cons, All-nil, slice_get_within, Contents, class_of, Addr}
+use Rattle.alloc_rules.proofs.Common.{cases_lt, get_or-set_same, get_or-set_other, length-set, All-cons, All-nil, slice_get_within, Contents, class_of, Addr, first_shard, no_class}
 use Rattle.alloc_rules.proofs.Common.{ClassRow, Run, SpanRef, Small, CallLine, HeapConfig, appended, emptied, objects_of, opening, Shard, fetched}
 use Rattle.alloc_rules.proofs.Common.{after_fetch, after_give, freed_by, places, spans_in, objects_in_spans, IsSame, IsFetched, IsAdded, with_new}
 use Rattle.alloc_rules.proofs.Common.{fetch_moves, add_moves, give_moves, small, objects_at, spans_like, spans_at, Asks, Setup, Stock, Books}
 use Rattle.alloc_rules.proofs.Common.{class_number, MoveObjects, AddSpan, shift, all_spans, span_all, Asking, Fetch, AddFetch, Give, class_row, Local}
-use Rattle.alloc_rules.proofs.Common.{with_hand, with_freed, decides_free, behind, clears, serves, with_more, fetches, shard_row, Planned}
-use Rattle.alloc_rules.proofs.Common.{About, AreEntries, FrontRules, Parts, stock_of, Does, no_shard, shard_at, IsShardOf, setup, IsBefore, Step, ShardStep}
+use Rattle.alloc_rules.proofs.Common.{with_hand, gave, serves, with_more, fetches, shard_after, Planned}
+use Rattle.alloc_rules.proofs.Common.{About, AreEntries, FrontRules, Parts, stock_of, Does, shard_at, IsShardOf, setup, IsBefore, Step, ShardStep}
 use Rattle.alloc_rules.proofs.Common.{Giving, StepShape, IsGiving, FitsAdd, FitsGive, IsLowRun, AddsSome, ShardActsMove}
 use Rattle.class_shard.specs.Laws.{IsGiven}
 use Rattle.page_map.specs.Spans.{IsInside}
@@ -70,10 +70,10 @@ module _ {P V R : Type 0} {r : FrontRules P V R} {about : R → About} {planned 
         record { books = before.books; cut = cut_of r about m.rows (with_shard new) (length-set p.shards k new ∙ before.parts.classes) each }
 
     now : (new : Shard) → shard_at (shards_with new) k ≡ new
-    now new = get_or-set_same p.shards k new no_shard (slice_get_within p.shards k x at)
+    now new = get_or-set_same p.shards k new (first_shard 0 0 no_class) (slice_get_within p.shards k x at)
 
     elsewhere : (new : Shard) (j : ℕ) → j ≢ k → shard_at (shards_with new) j ≡ shard_at p.shards j
-    elsewhere new j other = get_or-set_other p.shards k j new no_shard other
+    elsewhere new j other = get_or-set_other p.shards k j new (first_shard 0 0 no_class) other
 
     others : (new : Shard) (j n : ℕ) → j ≢ k → ((stock new).stored j n ≡ old.stored j n) × ((stock new).objects j n ≡ old.objects j n)
     others new j n other = grind (arith, elsewhere)
@@ -229,12 +229,12 @@ module _ {P V R : Type 0} {r : FrontRules P V R} {about : R → About} {planned 
       given_to items left = subst (MoveObjects old (stock given) k hand []) left (objects give_changes)
 
       give_does : (bag : Contents SpanRef) (items : List SpanRef) → bag.items ≡ items → freed ≡ items
-          → Goal given (Give g) (clears r.calls (decides_free (with_freed (with_hand (at_step (Give g)) (emptied l.regs.hand)) bag) g) (behind g) items)
+          → Goal given (Give g) (gave r.calls (record (with_hand (at_step (Give g)) (emptied l.regs.hand)) { freed = bag }) g items)
       give_does bag [] are left = gives_hand entries huge labels (restocked given given_of) (at_step (Give g)) bag g gives refl (given_to [] left)
-      give_does bag (s ∷ more) are left = gives_spans entries huge labels (restocked given given_of) (at_step (Give g)) bag g (s ∷ more) gives are refl (given_to (s ∷ more) left)
+      give_does bag (s ∷ more) are left = gives_spans entries huge labels (restocked given given_of) (at_step (Give g)) bag g s more gives are refl (given_to (s ∷ more) left)
 
     abbrev left_by : ShardStep R → Shard × Local V R
-    left_by row = shard_row r.calls x (at_step row) row
+    left_by row = shard_after r.calls x (at_step row) (does.Shard row)
 
     shard_does : (row : ShardStep R) → l.step ≡ does.Shard row → StepShape m.rows about l (does.Shard row) → Goal (left_by row).0 row (left_by row).1
     shard_does row is shape = grind (arith, add_does, fetch_does, give_does, is_added)
@@ -246,5 +246,5 @@ module _ {P V R : Type 0} {r : FrontRules P V R} {about : R → About} {planned 
   pub shard_acts_move : ShardActsMove r about planned
   shard_acts_move huge labels limits p locals b calls t l x row before is at =
       let Goal : Local V R → Shard × Local V R → Type 0 = λ y z. Does r about (setup r huge labels) (record p { shards = slice_set p.shards l.regs.class.0 z.0 }) b y z.1 in
-      subst (λ (s : Step R). Goal (record l { step = s }) (shard_row r.calls x (record l { step = s }) row)) (sym is)
+      subst (λ (s : Step R). Goal (record l { step = s }) (shard_after r.calls x (record l { step = s }) (does.Shard row))) (sym is)
       (shard_does before at row is (subst (StepShape r.calls.rows about l) is before.shaped.step))

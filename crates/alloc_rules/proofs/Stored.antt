@@ -1,7 +1,7 @@
 -- The stock after a part of the front-end or a shard was replaced, and an act by the books of the parts.
 use Rattle.std.proofs.Common.{◌≡◌, ◌≢◌, ℕ, ◌+◌, List, [], ◌++◌, Some, arith, slice_get, slice_set}
 use Rattle.alloc_rules.proofs.Common.{Addr, Shard, objects_at, Account, Setup, Books, Said, Move, MoveObjects, shift, Local, About}
-use Rattle.alloc_rules.proofs.Common.{account_of, decided_at, stored_in, stock_of, AreBooksOf, Does, FrontRules, Parts}
+use Rattle.alloc_rules.proofs.Common.{account_of, decided_at, stock_of, AreBooksOf, Does, FrontRules, Parts}
 
 -- the parts with others of the front-end, and other shards
 abbrev pub with_stores : {P : Type 0} → Parts P → List P → List Shard → Parts P
@@ -23,19 +23,19 @@ module _ {P V R : Type 0} (r : FrontRules P V R) (about : R → About) where
 
   -- what is stored with other parts of the front-end
   abbrev stored_by : Parts P → List P → ℕ → ℕ → ℕ
-  stored_by p fronts = stored_in r about (with_stores p fronts p.shards)
+  stored_by p fronts = (stock_of r about (with_stores p fronts p.shards)).stored
 
   -- one part of the front-end in place of another
   pub front_stored : (p : Parts P) (c : ℕ) (q new : P) → slice_get p.fronts c ≡ Some q → (k n : ℕ)
-      → stored_by p (slice_set p.fronts c new) k n + r.stored q k n ≡ stored_in r about p k n + r.stored new k n
+      → stored_by p (slice_set p.fronts c new) k n + r.stored q k n ≡ (stock_of r about p).stored k n + r.stored new k n
   front_stored p c q new at k n = let s = shift (λ (x : P). r.stored x k n) p.fronts c q new at in omega (arith, s)
 
   -- objects move between the front-end and a hand, with the shards as they were
-  pub stores_move : (p : Parts P) (fronts : List P) (class : ℕ) (hand new : List Addr) → ((k n : ℕ) → k ≢ class → stored_by p fronts k n ≡ stored_in r about p k n)
-      → ((n : ℕ) → stored_by p fronts class n + objects_at n new ≡ stored_in r about p class n + objects_at n hand)
+  pub stores_move : (p : Parts P) (fronts : List P) (class : ℕ) (hand new : List Addr) → ((k n : ℕ) → k ≢ class → stored_by p fronts k n ≡ (stock_of r about p).stored k n)
+      → ((n : ℕ) → stored_by p fronts class n + objects_at n new ≡ (stock_of r about p).stored class n + objects_at n hand)
       → MoveObjects (stock_of r about p) (stock_of r about (with_stores p fronts p.shards)) class hand new []
   stores_move p fronts class hand new others moves = grind arith
 
   -- no object moves: the stock is the same
-  pub stock_same : (p : Parts P) (fronts : List P) → ((k n : ℕ) → stored_by p fronts k n ≡ stored_in r about p k n) → stock_of r about p ≡ stock_of r about (with_stores p fronts p.shards)
+  pub stock_same : (p : Parts P) (fronts : List P) → ((k n : ℕ) → stored_by p fronts k n ≡ (stock_of r about p).stored k n) → stock_of r about p ≡ stock_of r about (with_stores p fronts p.shards)
   stock_same p fronts same = grind arith

@@ -1,11 +1,12 @@
 -- Accounts that weigh the same: one that nothing changes, and one that ends its call and begins the next.
 use Rattle.std.proofs.Common.{◌≡◌, ℕ, ◌+◌, Bool, cond, List, [], ◌∷◌, Option, Some, None, refl, ap, sym, subst, arith}
-use Rattle.alloc_rules.proofs.Common.{Addr, Class, Label, class_of, Call, Malloc, Free, Release, Drain, Resize, Planned, objects_at, Account, Doing, Takes}
-use Rattle.alloc_rules.proofs.Common.{Other, WeighSame, asking, publishing, taking, loose, got, put, first_of_malloc, first_of_call, regs_of_malloc, fresh_regs}
-use Rattle.alloc_rules.proofs.Common.{next_call, closes, ends, Local, step_or, Step, FrontCalls, AreEntries, IsEntry, About, account_of, doing_about}
+use Rattle.alloc_rules.proofs.Common.{Addr, Class, Label, class_of, Call, Malloc, Free, Release, Drain, Resize, Planned, objects_at, Account, Doing, Takes, regs_of_call}
+use Rattle.alloc_rules.proofs.Common.{Other, WeighSame, asking, publishing, taking, loose, got, put, first_of_call}
+use Rattle.alloc_rules.proofs.Common.{next_call, ends, Local, step_or, Step, FrontCalls, AreEntries, IsEntry, About, account_of, doing_about}
 use Rattle.holdings.specs.Accounts.{holds}
 use Rattle.call_steps.specs.declared.step.Step.TheVariants as step
 use Rattle.call_steps.specs.Calls as about
+use Rattle.alloc_rules.proofs.ScriptFacts.{closes, first_of_malloc, regs_of_malloc}
 
 -- an account that holds no span and no run, and one that has nothing to do with a label either
 abbrev pub bare : Doing → ℕ → List Addr → List Planned → Account
@@ -54,7 +55,7 @@ module _ {V R : Type 0} (e : FrontCalls V R) (of : R → About) (entries : AreEn
     own_weighs v call p rest got_none put_none = grind (arith, begun, entry_is)
 
     call_weighs : (v : V) (call : Call) (p : Planned) (rest : List Planned) → p.call ≡ call
-        → WeighSame (quiet k (p ∷ rest)) (account_of of (record l { seat = v; step = first_of_call e v call; regs = fresh_regs e call l.regs; rest = rest }))
+        → WeighSame (quiet k (p ∷ rest)) (account_of of (record l { seat = v; step = first_of_call e v call; regs = record (regs_of_call e call l.regs) { ran = 0 }; rest = rest }))
     call_weighs v (Malloc label size) p rest is = malloc_weighs v label size p rest (class_of e.rows size) is
     call_weighs v (Free label) p rest is =
         begun k l.regs.class.0 l.regs.hand.items (Takes label) p rest none (λ x. ap (got x) (sym is)) (λ x. refl) (λ x. ap (put x) (sym is)) (λ x w. refl) (λ n. refl)
@@ -76,8 +77,5 @@ module _ {V R : Type 0} (e : FrontCalls V R) (of : R → About) (entries : AreEn
   weighs_next l k none = closes_weighs (record l { acts = l.acts + 1 }) k none (e.last l.seat) (entries.last_about l.seat)
 
 -- that is one act more, with no further answer
-closes_counts : {V R : Type 0} (e : FrontCalls V R) (l : Local V R) (o : Option R) → ((closes e l o).acts ≡ l.acts) × ((closes e l o).answers ≡ l.answers)
-closes_counts e l o = grind arith
-
 pub ends_counts : {V R : Type 0} (e : FrontCalls V R) (l : Local V R) → ((ends e l).acts ≡ l.acts + 1) × ((ends e l).answers ≡ l.answers)
-ends_counts e l = closes_counts e (record l { acts = l.acts + 1 }) (e.last l.seat)
+ends_counts e l = grind arith

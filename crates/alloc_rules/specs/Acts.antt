@@ -2,6 +2,7 @@
 use Rattle.std.specs.Prelude.{◌≡◌, ℕ, ◌≤◌, List, Some, slice_get}
 use Rattle.tc_model.specs.declared.calls.Planned.{Planned}
 use Rattle.tc_model.specs.declared.answers.CallLine.{CallLine}
+use Rattle.tc_model.specs.Input.{labels_of, Asked}
 use Rattle.heap_rules.specs.declared.config.HeapConfig.{HeapConfig}
 use Rattle.holdings.specs.Books.{Setup, Books}
 use Rattle.holdings.specs.Facts.{Facts}
@@ -13,9 +14,12 @@ use Rattle.alloc_rules.specs.Machine.{Parts}
 use Rattle.alloc_rules.specs.Stocks.{ArePartsOk, AreBooksOf}
 use Rattle.alloc_rules.specs.Shapes.{IsShaped}
 
--- the setup of the books: so many hugepages and labels, and the front-end's table
+-- the setup of the books: so many hugepages and labels, and the front-end's table; and that of a trace
 abbrev pub setup : {P V R : Type 0} → FrontRules P V R → ℕ → ℕ → Setup
 setup r huge labels = record { huge = huge; labels = labels; rows = r.calls.rows }
+
+abbrev pub setup_of : {P V R : Type 0} → FrontRules P V R → Asked → Setup
+setup_of r asked = setup r asked.config.huge (labels_of asked)
 
 -- a sound table, parts and books, and the thread's local with its shape
 pub record IsBefore {P V R : Type 0} (r : FrontRules P V R) (about : R → About) (planned : Planned → Type 0) (huge labels : ℕ) (limits : HeapConfig) (p : Parts P) (locals : List (Local V R)) (b : Books) (calls : List CallLine) (t : ℕ) (l : Local V R) : Type 0 where

@@ -6,15 +6,15 @@ use Rattle.rseq_core.specs.declared.regs.Regs.{Regs}
 use Rattle.call_steps.specs.Local.{Local}
 use Rattle.alloc_rules.specs.declared.part.Part.{Part}
 use Rattle.alloc_rules.specs.declared.part.Part.TheVariants as part
-use Rattle.call_steps.specs.Fits.{FitsFrontStep, FitsShardStep, FitsHeapStep, FitsMapStep, FitsNamesStep}
+use Rattle.call_steps.specs.Fits.{FitsFront, FitsShard, FitsHeap, FitsMap, FitsNames}
 
 module _ {P V R : Type 0} (rows : List ClassRow) (fits : P → V → Regs → R → Type 0) where
   abbrev pub fits_step : Part P → Local V R → Type 0
-  fits_step (part.Front p) l = FitsFrontStep fits p l l.step
-  fits_step (part.Shard s) l = FitsShardStep rows s l l.step
-  fits_step (part.Heap heap) l = FitsHeapStep rows heap l l.step
-  fits_step (part.Map map) l = FitsMapStep map l l.step
-  fits_step (part.Names names) l = FitsNamesStep names l.step
+  fits_step (part.Front p) l = FitsFront fits p l l.step
+  fits_step (part.Shard s) l = FitsShard rows s l l.step
+  fits_step (part.Heap heap) l = FitsHeap rows heap l l.step
+  fits_step (part.Map map) l = FitsMap map l l.step
+  fits_step (part.Names names) l = FitsNames names l.step
 
   pub record Fits (p : Part P) (l : Local V R) : Type 0 where
     pub step : fits_step p l

@@ -5,7 +5,7 @@ use Rattle.tc_units.specs.Bag.{Contents}
 use Rattle.tc_units.specs.declared.units.Addr.{Addr}
 use Rattle.tc_units.specs.declared.units.Class.{Class}
 use Rattle.tc_model.specs.declared.calls.Call.{Call}
-use Rattle.tc_model.specs.declared.calls.Call.TheVariants.{Malloc, Free, Release, Drain, Resize}
+use Rattle.tc_model.specs.declared.calls.Call.TheVariants.{Drain, Resize}
 use Rattle.tc_model.specs.declared.calls.Planned.{Planned}
 use Rattle.tc_model.specs.declared.answers.Answer.{Answer}
 use Rattle.tc_model.specs.declared.machine.TheConstants.{MOST_PICKS}
@@ -76,11 +76,9 @@ pub record FitsAt {P V R : Type 0} (r : FrontRules P V R) (fits : P → V → Re
 
 -- a call of the front-end's own
 abbrev pub IsOwn : Call → Type 0
-IsOwn (Malloc label size) = ⊥
-IsOwn (Free label) = ⊥
-IsOwn (Release pages) = ⊥
 IsOwn (Drain cpu) = Unit {0}
 IsOwn (Resize cpu class cap) = Unit {0}
+IsOwn call = ⊥
 
 -- a planned call that is none of its own
 abbrev pub IsNotOwn : Planned → Type 0

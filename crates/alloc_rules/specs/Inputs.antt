@@ -2,7 +2,7 @@
 use Rattle.std.specs.Prelude.{◌≡◌, ℕ, ◌<◌, Bool, true, false, if◌then◌else◌, List, length, sum_by, All, Option, Some, None}
 use Rattle.tc_units.specs.declared.spans.ClassRow.{ClassRow}
 use Rattle.tc_model.specs.declared.calls.Call.{Call}
-use Rattle.tc_model.specs.declared.calls.Call.TheVariants.{Malloc, Free, Release, Drain, Resize}
+use Rattle.tc_model.specs.declared.calls.Call.TheVariants.{Drain, Resize}
 use Rattle.tc_model.specs.declared.calls.MoveTo.{MoveTo}
 use Rattle.tc_model.specs.declared.calls.Planned.{Planned}
 use Rattle.tc_model.specs.declared.config.Config.{Config}
@@ -28,11 +28,9 @@ IsMove m None = Unit {0}
 IsMove m (Some move) = move.cpu.0 < m.cpus
 
 abbrev pub IsCallThere : Limits → Call → Type 0
-IsCallThere m (Malloc label size) = Unit {0}
-IsCallThere m (Free label) = Unit {0}
-IsCallThere m (Release pages) = Unit {0}
 IsCallThere m (Drain c) = c.0 < m.cpus
 IsCallThere m (Resize c class cap) = (c.0 < m.cpus) × (class.0 < length m.rows)
+IsCallThere m call = Unit {0}
 
 pub record IsPlanned (m : Limits) (p : Planned) : Type 0 where
   pub call : IsCallThere m p.call
@@ -44,11 +42,9 @@ IsValidInput input = IsValid input.rows (IsPlanned (limits_of input.rows input.a
 
 -- the calls that every front-end takes: no drain and no resize
 abbrev pub is_common : Call → Bool
-is_common (Malloc label size) = true
-is_common (Free label) = true
-is_common (Release pages) = true
 is_common (Drain cpu) = false
 is_common (Resize cpu class cap) = false
+is_common call = true
 
 -- whether each call of a script is one that a front-end takes, by what it says of each
 abbrev pub AreTaken : (Call → Bool) → List Planned → Type 0

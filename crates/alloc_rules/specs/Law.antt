@@ -7,7 +7,7 @@ use Rattle.tc_units.specs.declared.spans.Run.{Run}
 use Rattle.tc_model.specs.declared.answers.CallLine.{CallLine}
 use Rattle.tc_model.specs.Blocks.{IsBlockRun, blocks_after, live_bytes}
 use Rattle.tc_model.specs.declared.calls.Planned.{Planned}
-use Rattle.tc_model.specs.Input.{Asked, script_of, labels_of}
+use Rattle.tc_model.specs.Input.{Asked, script_of}
 use Rattle.tc_model.specs.Run.{world_of, run}
 use Rattle.tc_model.specs.Sound.{IsOrder, IsSound}
 use Rattle.tc_model.specs.Calls.{picks_of, calls_of, AreRising}
@@ -21,8 +21,8 @@ use Rattle.heap_rules.specs.Sound as heaps
 use Rattle.heap_rules.specs.New.{new, none_fits}
 use Rattle.rseq_core.specs.declared.regs.Regs.{Regs}
 use Rattle.holdings.specs.Runs.{bit, small, runs_like, runs_at, spans_like, spans_of_run, spans_at, objects_at}
-use Rattle.holdings.specs.Accounts.{Account, loose, in_hand, off_map, transit, unpublished, untaken, named_at, is_out, is_taken}
-use Rattle.holdings.specs.Books.{Setup, Books, class_number, over_classes}
+use Rattle.holdings.specs.Accounts.{Account, loose, in_hand, unpublished, untaken, named_at, is_out, is_taken}
+use Rattle.holdings.specs.Books.{Books, class_number, over_classes}
 use Rattle.holdings.specs.Facts.{IsStanding}
 use Rattle.call_steps.specs.declared.step.Step.TheVariants as does
 use Rattle.call_steps.specs.Local.{Local, Decided, told}
@@ -38,13 +38,8 @@ use Rattle.alloc_rules.specs.Accounts.{account_of}
 use Rattle.alloc_rules.specs.Stocks.{IsShardOf, stock_of}
 use Rattle.alloc_rules.specs.Standings.{Standing, standing_of}
 use Rattle.call_steps.specs.Fronts.{FrontRules}
-use Rattle.alloc_rules.specs.Acts.{setup}
 use Rattle.alloc_rules.specs.Fits.{Fits}
 use Rattle.alloc_rules.specs.Answers.{AnswersNone, RefusesThere}
-
--- what a run is of
-abbrev pub setup_of : {P V R : Type 0} → FrontRules P V R → Asked → Setup
-setup_of r asked = setup r asked.config.huge (labels_of asked)
 
 -- the calls of a run: those that the picks of an order decided, in their order
 abbrev pub calls : {V R : Type 0} → List (Local V R) → List ℕ → List CallLine
@@ -87,7 +82,7 @@ module _ {P V R : Type 0} (r : FrontRules P V R) (about : R → About) (Holds : 
     -- the decided calls are a run on a set of disjoint blocks, of the requests' rounded lengths
     pub blocks : IsBlockRun asked.config.huge (length_of r.calls.rows) (calls locals order)
     -- each block that stands then is that of a live run that is no span of a class, or an object of that block's length
-    pub blocks_are_live : All (IsStanding (setup_of r asked) (books_of parts locals)) (blocks_after (calls locals order))
+    pub blocks_are_live : All (IsStanding r.calls.rows (books_of parts locals)) (blocks_after (calls locals order))
     -- and their bytes are among those of the live runs
     pub covered : live_bytes (calls locals order) ≤ sum_by (λ (x : Run). x.pages) parts.heap.runs * page_bytes
     -- each thread's decided calls are the first ones of its script, each once; a call that has ended was decided
@@ -133,10 +128,10 @@ module _ {P V R : Type 0} (r : FrontRules P V R) (about : R → About) (Holds : 
     -- the page map's spans are disjoint and inside the arena
     pub map_spans_are_apart : IsWellFormed parts.map
     -- they are the live runs, pages and all, but for those between an act that gets and one that sets a run, or that clears and gives it back
-    pub map_has_runs : (x : Run) → spans_of_run x parts.map.spans + over_locals about locals (off_map x) ≡ runs_like x parts.heap.runs
+    pub map_has_runs : (x : Run) → spans_of_run x parts.map.spans + over_locals about locals (λ (a : Account). runs_like x a.off) ≡ runs_like x parts.heap.runs
     -- of them those of a class are its shard's, pages and all, but for those that a call holds
-    pub map_has_spans : (k : ℕ) (x : Run)
-        → (stock_of r about parts).owned (small (class_number k) x) + over_locals about locals (transit (small (class_number k) x)) ≡ spans_like (small (class_number k) x) parts.map.spans
+    pub map_has_spans : (k : ℕ) (x : Run) → (let s = small (class_number k) x in
+        (stock_of r about parts).owned s + over_locals about locals (λ (a : Account). spans_like s a.mapped) ≡ spans_like s parts.map.spans)
     -- a published label that isn't taken is null or names an object or a live run
     pub name_is_live : (label : ℕ) (addr : Addr) → state_of parts.names label ≡ name.Published (Some addr)
         → ((k : ℕ) × (0 < (stock_of r about parts).objects k addr.0)) ⊎ (runs_at addr.0 parts.heap.runs ≡ 1)

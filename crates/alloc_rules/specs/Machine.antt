@@ -15,7 +15,7 @@ use Rattle.class_shard.specs.Shard.{Shard}
 use Rattle.call_steps.specs.declared.step.Target.{Target}
 use Rattle.call_steps.specs.declared.step.Target.TheVariants as target
 use Rattle.call_steps.specs.Local.{first_local, Local}
-use Rattle.call_steps.specs.Kept.{target_of}
+use Rattle.call_steps.specs.Kept.{target_at}
 use Rattle.call_steps.specs.Acts.{front_after, front_yields, shard_after, heap_after, map_after, names_after, waits_for}
 use Rattle.alloc_rules.specs.declared.part.Part.TheVariants.{Front, Shard as OfClass, Heap, Map, Names}
 use Rattle.call_steps.specs.Calls.{About}
@@ -68,7 +68,7 @@ waits other l = false
 module _ {P V R : Type 0} (r : FrontRules P V R) (about : R → About) where
   -- the part that an act is on
   abbrev pub place_of : Local V R → Option PartNo
-  place_of l = option_map (number_of r.split (length r.calls.rows)) (target_of r.place l)
+  place_of l = option_map (number_of r.split (length r.calls.rows)) (target_at r.place l l.step)
 
   -- the pair that an act leaves
   abbrev pub after : Part P → Local V R → Part P × Local V R

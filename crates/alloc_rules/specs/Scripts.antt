@@ -6,15 +6,18 @@ use Rattle.tc_model.specs.declared.calls.Call.TheVariants.{Malloc}
 use Rattle.tc_model.specs.declared.calls.Planned.{Planned}
 use Rattle.name_table.specs.declared.table.NameState.{NameState}
 use Rattle.name_table.specs.Names.{state_of}
-use Rattle.holdings.specs.Accounts.{asking, publishing, is_out}
+use Rattle.holdings.specs.Accounts.{Doing, asking, publishing, is_out}
 use Rattle.call_steps.specs.declared.step.Step.{Step}
 use Rattle.call_steps.specs.declared.step.Step.TheVariants as does
 use Rattle.call_steps.specs.Fronts.{FrontCalls}
 use Rattle.call_steps.specs.Local.{Local, Decided, first_act}
 use Rattle.call_steps.specs.Calls.{About}
-use Rattle.call_steps.specs.Rows.{undecided, under}
+use Rattle.call_steps.specs.Rows.{step_rule, undecided, under}
 use Rattle.call_steps.specs.Kept.{call_at}
-use Rattle.alloc_rules.specs.Accounts.{doing_of}
+
+-- what a step is about with a label
+abbrev pub doing_of : {R : Type 0} → (R → About) → Step R → Doing
+doing_of about s = (step_rule s).doing about
 
 -- whether a call is under way
 abbrev pub is_under_way : {R : Type 0} → Step R → Bool

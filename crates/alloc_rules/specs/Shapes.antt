@@ -52,15 +52,13 @@ IsLater rows about k row = (k.0 < length rows) × HasNoLabel (about row)
 
 -- what is given away, and what comes then
 abbrev pub IsGiving : {R : Type 0} → List ClassRow → (R → About) → List Addr → Giving R → Type 0
-IsGiving rows about hand (giving.Rest s) = Unit {0}
 IsGiving rows about hand (giving.Freed f) = BeginsWith f.addr hand
 IsGiving rows about hand (giving.Row k row) = IsLater rows about k row
-IsGiving rows about hand giving.End = Unit {0}
+IsGiving rows about hand other = Unit {0}
 
 abbrev pub IsOnward : {R : Type 0} → List ClassRow → (R → About) → Onward R → Type 0
-IsOnward rows about (onward.Publish s) = Unit {0}
 IsOnward rows about (onward.Row k row) = IsLater rows about k row
-IsOnward rows about onward.End = Unit {0}
+IsOnward rows about other = Unit {0}
 
 -- by what the row at its step has in hand
 abbrev pub HasInHand : {V R : Type 0} → List ClassRow → (R → About) → Local V R → InHand R → Type 0

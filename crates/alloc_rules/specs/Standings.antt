@@ -4,7 +4,6 @@ use Rattle.tc_units.specs.declared.units.Class.{Class}
 use Rattle.rseq_core.specs.declared.regs.Regs.{Regs}
 use Rattle.call_steps.specs.declared.step.Giving.{Giving}
 use Rattle.call_steps.specs.declared.step.Giving.TheVariants as giving
-use Rattle.call_steps.specs.declared.step.Onward.{Onward}
 use Rattle.call_steps.specs.declared.step.Onward.TheVariants as onward
 use Rattle.call_steps.specs.declared.step.Next.{Next}
 use Rattle.call_steps.specs.declared.step.Next.TheVariants as next
@@ -35,64 +34,35 @@ abbrev pub at_row : {R : Type 0} → Option R → At R
 at_row None = Away
 at_row (Some row) = Here row
 
--- while a hand is given away, and while spans are given back
-abbrev pub at_giving : {R : Type 0} → Giving R → At R
-at_giving (giving.Rest s) = Away
-at_giving (giving.Freed f) = Away
-at_giving (giving.Row k row) = Later k row
-at_giving giving.End = Away
-
-abbrev pub at_onward : {R : Type 0} → Onward R → At R
-at_onward (onward.Publish s) = Away
-at_onward (onward.Row k row) = Later k row
-at_onward onward.End = Away
-
--- by what the row at its step has in hand
+-- by what the row at its step has in hand: one may come once a hand is given away, or once spans are given back
 abbrev pub at_hand : {R : Type 0} → InHand R → At R
-at_hand has.Nothing = Away
-at_hand (has.ForClass a) = Away
-at_hand (has.ForPages size) = Away
-at_hand (has.Gives g) = at_giving g
-at_hand (has.GivesSpans next) = at_onward next
 at_hand (has.OfFront row) = Here row
+at_hand (has.Gives (giving.Row k row)) = Later k row
+at_hand (has.GivesSpans (onward.Row k row)) = Later k row
+at_hand other = Away
 
 abbrev pub at_step : {R : Type 0} → Step R → At R
 at_step s = at_hand (step_rule s).hand
 
 abbrev pub standing_of : {V R : Type 0} → Local V R → Standing V R
-standing_of l = stand l.seat l.regs l.acts (at_step l.step)
+standing_of l = record { seat = l.seat; regs = l.regs; acts = l.acts; at = at_step l.step }
 
 -- Right behind an act of the front-end: a hand that it took itself lets the row come at once, for its class.
 abbrev pub at_gave : {R : Type 0} → Giving R → At R
-at_gave (giving.Rest s) = Away
-at_gave (giving.Freed f) = Away
 at_gave (giving.Row k row) = Here row
-at_gave giving.End = Away
+at_gave other = Away
 
 abbrev pub at_next : {R : Type 0} → Next R → At R
 at_next (next.Row row) = Here row
-at_next (next.Serve a) = Away
-at_next (next.Fetch a) = Away
-at_next (next.Give g) = at_giving g
+at_next (next.Give g) = at_hand (has.Gives g)
 at_next (next.Gave g) = at_gave g
-at_next (next.Publish s) = Away
-at_next (next.Freed f) = Away
 at_next (next.Decide answer row) = at_row row
-at_next next.End = Away
+at_next other = Away
 
 abbrev pub regs_gave : {R : Type 0} → Regs → Giving R → Regs
-regs_gave g (giving.Rest s) = g
-regs_gave g (giving.Freed f) = g
 regs_gave g (giving.Row k row) = record g { class = k }
-regs_gave g giving.End = g
+regs_gave g other = g
 
 abbrev pub regs_next : {R : Type 0} → Regs → Next R → Regs
-regs_next g (next.Row row) = g
-regs_next g (next.Serve a) = g
-regs_next g (next.Fetch a) = g
-regs_next g (next.Give v) = g
 regs_next g (next.Gave v) = regs_gave g v
-regs_next g (next.Publish s) = g
-regs_next g (next.Freed f) = g
-regs_next g (next.Decide answer row) = g
-regs_next g next.End = g
+regs_next g other = g

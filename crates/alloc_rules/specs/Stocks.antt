@@ -15,17 +15,14 @@ use Rattle.holdings.specs.Runs.{runs_like, spans_like, spans_at, objects_at}
 use Rattle.holdings.specs.Books.{Setup, Stock, Books, class_number, no_class}
 use Rattle.holdings.specs.Moves.{Said, Move}
 use Rattle.call_steps.specs.Local.{Decided, Local}
-use Rattle.alloc_rules.specs.Machine.{Parts}
+use Rattle.alloc_rules.specs.Machine.{Parts, first_shard}
 use Rattle.call_steps.specs.Calls.{About}
 use Rattle.alloc_rules.specs.Accounts.{account_of}
 use Rattle.call_steps.specs.Fronts.{FrontRules}
 
 -- the shard of a class; of a class that isn't there, one without anything
-abbrev pub no_shard : Shard
-no_shard = record { class = class_number 0; transfer = record { objects = []; room = 0 }; central = record { row = no_class; spans = [] } }
-
 abbrev pub shard_at : List Shard → ℕ → Shard
-shard_at shards k = slice_index_or shards k no_shard
+shard_at shards k = slice_index_or shards k (first_shard 0 0 no_class)
 
 -- a shard is that of a class: it has the class's row, and spans of that class alone
 pub record IsShardOf (rows : List ClassRow) (k : ℕ) (x : Shard) : Type 0 where
@@ -49,15 +46,12 @@ pub record ArePartsOk {P : Type 0} (rows : List ClassRow) (limits : HeapConfig) 
   pub huge : p.map.huge ≡ limits.huge
 
 module _ {P V R : Type 0} (r : FrontRules P V R) (about : R → About) where
-  -- how many objects of a class are at an address in all of the stock
-  abbrev pub stored_in : Parts P → ℕ → ℕ → ℕ
-  stored_in p k n = sum_by (λ (q : P). r.stored q k n) p.fronts + objects_at n (places (shard_at p.shards k))
-
+  -- what is stocked: the objects of the shards' spans, and those that the front-end's parts and the shards hold
   abbrev pub stock_of : Parts P → Stock
   stock_of p =
       record {
         objects = λ k n. objects_at n (objects_in_spans (shard_at p.shards k));
-        stored = stored_in p;
+        stored = λ k n. sum_by (λ (q : P). r.stored q k n) p.fronts + objects_at n (places (shard_at p.shards k));
         owned = λ s. sum_by (λ (x : Shard). spans_like s (spans_in x)) p.shards;
         begins = λ n. sum_by (λ (x : Shard). spans_at n (spans_in x)) p.shards;
       }

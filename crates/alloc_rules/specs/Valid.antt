@@ -1,7 +1,7 @@
 -- The traces that the rules serve: every one that a reader takes, with calls that the front-end takes.
 use Rattle.std.specs.Prelude.{◌≡◌, ℕ, ◌^◌, ◌<◌, ◌≤◌, List, ◌∷◌, ◌++◌, sum_by}
 use Rattle.tc_model.specs.declared.calls.Call.{Call}
-use Rattle.tc_model.specs.declared.calls.Call.TheVariants.{Malloc, Free, Release, Drain, Resize}
+use Rattle.tc_model.specs.declared.calls.Call.TheVariants.{Malloc, Free}
 use Rattle.tc_model.specs.declared.config.Config.{Config}
 use Rattle.tc_model.specs.Input.{ThreadCall, Asked}
 use Rattle.holdings.specs.Accounts.{got, put}
@@ -20,9 +20,7 @@ put_in x calls = sum_by (λ c. put x c.planned.call) calls
 abbrev pub IsInOrder : List ThreadCall → Call → Type 0
 IsInOrder earlier (Malloc label size) = (size ≤ 2 ^ 40) × (got_in label.0 earlier ≡ 0)
 IsInOrder earlier (Free label) = (0 < got_in label.0 earlier) × (put_in label.0 earlier ≡ 0)
-IsInOrder earlier (Release pages) = Unit {0}
-IsInOrder earlier (Drain cpu) = Unit {0}
-IsInOrder earlier (Resize cpu class cap) = Unit {0}
+IsInOrder earlier call = Unit {0}
 
 -- the limits of a trace, as far as the core and its front-ends need them
 pub record AreLimits (c : Config) : Type 0 where

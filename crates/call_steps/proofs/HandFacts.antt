@@ -14,7 +14,7 @@ use Rattle.rseq_core.specs.declared.regs.Regs.{Regs}
 use Rattle.call_steps.specs.declared.step.Asking.{Asking}
 use Rattle.call_steps.specs.declared.step.Step.{Step}
 use Rattle.call_steps.specs.declared.step.Next.TheVariants as next
-use Rattle.call_steps.specs.Hands.{with_regs, stock_step, stock_regs, serves}
+use Rattle.call_steps.specs.Hands.{stock_step, stock_regs, serves}
 use Rattle.call_steps.specs.Fronts.{FrontCalls}
 use Rattle.call_steps.specs.Local.{Local, class_row, decided, goes, ends}
 use Rattle.call_steps.specs.Follows.{follows}
@@ -35,5 +35,5 @@ ends_by e l new (Some call) answer some made = made call refl
 -- the first object in hand is the answer, and with the others the allocation stocks the front-end, or it publishes its object
 pub served : {V R : Type 0} (e : FrontCalls V R) (l new : Local V R) (asking : Asking) (a : Addr) (hand : Contents Addr) (row : ClassRow) (len : ℕ) (regs : Regs) (next : Step R) → row ≡ class_row e.rows l → len ≡ row.size
     → l.regs.hand.items ≡ a ∷ hand.items → hand.spare ≡ l.regs.hand.spare + 1 → regs ≡ stock_regs e (record l.regs { hand = hand }) hand.items → next ≡ stock_step e l.seat (record { label = asking.label; addr = a }) hand.items
-    → new ≡ goes (decided (with_regs l regs) (Malloc asking.label asking.size) (Block a len)) next → new ≡ serves e l asking
+    → new ≡ goes (decided (record l { regs = regs }) (Malloc asking.label asking.size) (Block a len)) next → new ≡ serves e l asking
 served {V} {R} e l new asking a hand row len regs next at size is room regs_are next_is made = grind (arith, without_is)

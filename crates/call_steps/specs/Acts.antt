@@ -1,7 +1,7 @@
--- The acts at the page heap, at the page map and at the names, and the act of a local at any part behind the front-end.
-use Rattle.std.specs.Prelude.{ℕ, ◌+◌, ◌*◌, ◌/◌, Bool, true, false, List, [], ◌∷◌, find, Option, Some, None, slice_set}
+-- The acts of a local, at each kind of part.
+use Rattle.std.specs.Prelude.{ℕ, ◌+◌, ◌*◌, ◌/◌, Bool, true, false, List, [], ◌∷◌, find, Option, Some, None, slice_get, slice_set}
+use Rattle.std.specs.Option.{option_map_or}
 use Rattle.tc_units.specs.Units.{page_bytes, pages_holding}
-use Rattle.tc_units.specs.Bag.{Contents}
 use Rattle.tc_units.specs.declared.units.Addr.{Addr}
 use Rattle.tc_units.specs.declared.units.Label.{Label}
 use Rattle.tc_units.specs.declared.spans.SpanRef.{SpanRef}
@@ -10,7 +10,8 @@ use Rattle.tc_units.specs.declared.spans.SpanKind.TheVariants.{Small, Large}
 use Rattle.tc_model.specs.declared.calls.Call.TheVariants.{Malloc, Free, Release}
 use Rattle.tc_model.specs.declared.answers.Answer.TheVariants.{Block, NoBlock, Freed, FreedNull, Released}
 use Rattle.rseq_core.specs.Bags.{appended}
-use Rattle.class_shard.specs.Shard.{Shard}
+use Rattle.rseq_core.specs.declared.regs.Regs.{Regs}
+use Rattle.class_shard.specs.Shard.{Shard, fetched, after_fetch, after_give, freed_by}
 use Rattle.page_map.specs.Spans.{SpanMap, holds, with_span, without_span}
 use Rattle.name_table.specs.declared.table.NameState.{NameState}
 use Rattle.name_table.specs.declared.table.NameState.TheVariants as name
@@ -26,20 +27,26 @@ use Rattle.call_steps.specs.declared.step.Freeing.{Freeing}
 use Rattle.call_steps.specs.declared.step.Giving.TheVariants as giving
 use Rattle.call_steps.specs.declared.step.Onward.{Onward}
 use Rattle.call_steps.specs.declared.step.Step.{Step}
-use Rattle.call_steps.specs.declared.step.HeapStep.{HeapStep}
-use Rattle.call_steps.specs.declared.step.MapStep.{MapStep}
 use Rattle.call_steps.specs.declared.step.Step.TheVariants as step
 use Rattle.call_steps.specs.declared.step.ShardStep.TheVariants as shard
 use Rattle.call_steps.specs.declared.step.HeapStep.TheVariants.{New, NewSpan, GiveBack, FreeSpan, Unback}
 use Rattle.call_steps.specs.declared.step.MapStep.TheVariants.{Set, SetSpan, Lookup, Clear, ClearSpan}
-use Rattle.call_steps.specs.declared.step.NamesStep.{NamesStep}
 use Rattle.call_steps.specs.declared.step.NamesStep.TheVariants.{Publish, Take}
 use Rattle.call_steps.specs.Calls.{About, call_about}
 use Rattle.call_steps.specs.Fronts.{FrontCalls, FrontRules}
 use Rattle.call_steps.specs.Local.{Local, step_or, decided, goes, ends, class_row}
-use Rattle.call_steps.specs.Hands.{with_regs, with_freed, clears}
-use Rattle.call_steps.specs.ShardActs.{shard_row}
+use Rattle.call_steps.specs.Hands.{clears, given_back}
+use Rattle.call_steps.specs.ShardActs.{fetches, adds}
 use Rattle.call_steps.specs.Follows.{follows}
+
+-- The acts at the shard of the thread's class. A local is at the part that its step wants; at another it does nothing.
+abbrev pub shard_after : {V R : Type 0} → FrontCalls V R → Shard → Local V R → Step R → Shard × Local V R
+shard_after e s l (step.Shard (shard.Fetch asking)) =
+    (after_fetch (class_row e.rows l).batch s, fetches e l asking (fetched (class_row e.rows l).batch s))
+shard_after e s l (step.Shard (shard.AddFetch asking run)) = adds e s l asking (small l.regs.class run)
+shard_after e s l (step.Shard (shard.Give g)) =
+    (after_give l.regs.hand.items s, given_back e l g (appended l.freed (freed_by l.regs.hand.items s)))
+shard_after e s l other = (s, l)
 
 -- New decides an allocation: its block is the new run, or there is none.
 abbrev pub after_new : {V R : Type 0} → heaps.Heap → Local V R → Label → ℕ → Option Placed → heaps.Heap × Local V R
@@ -52,44 +59,43 @@ after_new_span heap l asking None = (heap, goes (decided l (Malloc asking.label 
 after_new_span heap l asking (Some p) = (p.heap, goes l (step.Map (SetSpan asking p.run)))
 
 -- the first of the spans that left a shard is given back, and the others are left
-abbrev pub without_first_span : Contents SpanRef → List SpanRef → Contents SpanRef
-without_first_span bag others = record { items = others; spare = bag.spare + 1 }
-
 abbrev pub frees_span : {V R : Type 0} → FrontCalls V R → heaps.Heap → Local V R → Onward R → List SpanRef → heaps.Heap × Local V R
 frees_span e heap l next [] = (heap, l)
-frees_span e heap l next (s ∷ others) = (freed heap (run_of s), clears e (with_freed l (without_first_span l.freed others)) next others)
+frees_span e heap l next (s ∷ others) =
+    (freed heap (run_of s), clears e (record l { freed = record { items = others; spare = l.freed.spare + 1 } }) next others)
 
 -- the acts at the page heap
-abbrev pub heap_row : {V R : Type 0} → FrontCalls V R → heaps.Heap → Local V R → HeapStep R → heaps.Heap × Local V R
-heap_row e heap l (New label size) = after_new heap l label size (new heap (pages_holding size))
-heap_row e heap l (NewSpan asking) = after_new_span heap l asking (new heap (class_row e.rows l).pages)
-heap_row e heap l (GiveBack label run) = (freed heap run, ends e (decided l (Free label) (Freed (address_of run))))
-heap_row e heap l (FreeSpan next) = frees_span e heap l next l.freed.items
-heap_row e heap l (Unback pages) = ((release heap pages).heap, ends e (decided l (Release pages) (Released (release heap pages).pages)))
+abbrev pub heap_after : {V R : Type 0} → FrontCalls V R → heaps.Heap → Local V R → Step R → heaps.Heap × Local V R
+heap_after e heap l (step.Heap (New label size)) = after_new heap l label size (new heap (pages_holding size))
+heap_after e heap l (step.Heap (NewSpan asking)) = after_new_span heap l asking (new heap (class_row e.rows l).pages)
+heap_after e heap l (step.Heap (GiveBack label run)) = (freed heap run, ends e (decided l (Free label) (Freed (address_of run))))
+heap_after e heap l (step.Heap (FreeSpan next)) = frees_span e heap l next l.freed.items
+heap_after e heap l (step.Heap (Unback pages)) =
+    ((release heap pages).heap, ends e (decided l (Release pages) (Released (release heap pages).pages)))
+heap_after e heap l other = (heap, l)
 
 -- Lookup finds the span that holds the address: an object is to be pushed, and a large block's span is to be cleared.
 abbrev pub found : {V R : Type 0} → FrontCalls V R → Local V R → Label → Addr → SpanRef → SpanKind → Local V R
 found e l label addr span (Small k) =
     let f : Freeing = record { label = label; addr = addr } in
-    goes (with_regs l (e.to_free (record l.regs { class = k; hand = appended l.regs.hand (addr ∷ []) }))) (step_or (step.Shard (shard.Give (giving.Freed f))) (e.free l.seat f))
+    let regs : Regs = e.to_free (record l.regs { class = k; hand = appended l.regs.hand (addr ∷ []) }) in
+    goes (record l { regs = regs }) (step_or (step.Shard (shard.Give (giving.Freed f))) (e.free l.seat f))
 found e l label addr span Large = goes l (step.Map (Clear label (run_of span)))
 
-abbrev pub after_lookup : {V R : Type 0} → FrontCalls V R → Local V R → Label → Addr → Option SpanRef → Local V R
-after_lookup e l label addr None = l
-after_lookup e l label addr (Some span) = found e l label addr span span.kind
-
--- the first of the spans that left a shard is cleared
-abbrev pub clears_span : {V R : Type 0} → SpanMap → Local V R → Onward R → List SpanRef → SpanMap × Local V R
-clears_span map l next [] = (map, l)
-clears_span map l next (s ∷ others) = (record map { spans = without_span s map.spans }, goes l (step.Heap (FreeSpan next)))
-
--- the acts at the page map
-abbrev pub map_row : {V R : Type 0} → FrontCalls V R → SpanMap → Local V R → MapStep R → SpanMap × Local V R
-map_row e map l (Set label run) = (record map { spans = with_span (large run) map.spans }, goes l (step.Names (Publish label (Some (address_of run)))))
-map_row e map l (SetSpan asking run) = (record map { spans = with_span (small l.regs.class run) map.spans }, goes l (step.Shard (shard.AddFetch asking run)))
-map_row e map l (Lookup label addr) = (map, after_lookup e l label addr (find (holds (addr.0 / page_bytes)) map.spans))
-map_row e map l (Clear label run) = (record map { spans = without_span (large run) map.spans }, goes l (step.Heap (GiveBack label run)))
-map_row e map l (ClearSpan next) = clears_span map l next l.freed.items
+-- the acts at the page map: of the spans that left a shard the first is cleared
+abbrev pub map_after : {V R : Type 0} → FrontCalls V R → SpanMap → Local V R → Step R → SpanMap × Local V R
+map_after e map l (step.Map (Set label run)) =
+    (record map { spans = with_span (large run) map.spans }, goes l (step.Names (Publish label (Some (address_of run)))))
+map_after e map l (step.Map (SetSpan asking run)) =
+    (record map { spans = with_span (small l.regs.class run) map.spans }, goes l (step.Shard (shard.AddFetch asking run)))
+map_after e map l (step.Map (Lookup label addr)) =
+    (map, option_map_or (λ (s : SpanRef). found e l label addr s s.kind) (find (holds (addr.0 / page_bytes)) map.spans) l)
+map_after e map l (step.Map (Clear label run)) =
+    (record map { spans = without_span (large run) map.spans }, goes l (step.Heap (GiveBack label run)))
+map_after e map l (step.Map (ClearSpan next)) =
+    let first = slice_get l.freed.items 0 in
+    option_map_or (λ s. (record map { spans = without_span s map.spans }, goes l (step.Heap (FreeSpan next)))) first (map, l)
+map_after e map l other = (map, l)
 
 -- Take gives what the label was published with: null decides and ends the free.
 abbrev pub after_take : {V R : Type 0} → FrontCalls V R → List NameState → Local V R → Label → NameState → List NameState × Local V R
@@ -99,44 +105,23 @@ after_take e names l label (name.Published None) = (slice_set names label.0 name
 after_take e names l label (name.Published (Some addr)) = (slice_set names label.0 name.Taken, goes l (step.Map (Lookup label addr)))
 
 -- the acts at the names
-abbrev pub names_row : {V R : Type 0} → FrontCalls V R → List NameState → Local V R → NamesStep → List NameState × Local V R
-names_row e names l (Publish label value) = (slice_set names label.0 (name.Published value), ends e l)
-names_row e names l (Take label) = after_take e names l label (state_of names label.0)
-
--- The act of a local at a part: it is at the part that its step wants.
-abbrev pub shard_after : {V R : Type 0} → FrontCalls V R → Shard → Local V R → Step R → Shard × Local V R
-shard_after e s l (step.Shard row) = shard_row e s l row
-shard_after e s l other = (s, l)
-
-abbrev pub heap_after : {V R : Type 0} → FrontCalls V R → heaps.Heap → Local V R → Step R → heaps.Heap × Local V R
-heap_after e heap l (step.Heap row) = heap_row e heap l row
-heap_after e heap l other = (heap, l)
-
-abbrev pub map_after : {V R : Type 0} → FrontCalls V R → SpanMap → Local V R → Step R → SpanMap × Local V R
-map_after e map l (step.Map row) = map_row e map l row
-map_after e map l other = (map, l)
-
 abbrev pub names_after : {V R : Type 0} → FrontCalls V R → List NameState → Local V R → Step R → List NameState × Local V R
-names_after e names l (step.Names row) = names_row e names l row
+names_after e names l (step.Names (Publish label value)) = (slice_set names label.0 (name.Published value), ends e l)
+names_after e names l (step.Names (Take label)) = after_take e names l label (state_of names label.0)
 names_after e names l other = (names, l)
 
 -- A local waits where its next act takes a label that isn't published.
-abbrev pub waits_row : List NameState → NamesStep → Bool
-waits_row names (Publish label value) = false
-waits_row names (Take label) = is_unpublished (state_of names label.0)
-
 abbrev pub waits_for : {R : Type 0} → List NameState → Step R → Bool
-waits_for names (step.Names row) = waits_row names row
+waits_for names (step.Names (Take label)) = is_unpublished (state_of names label.0)
 waits_for names other = false
 
 module _ {P V R : Type 0} (r : FrontRules P V R) where
   -- an act of the front-end, with what comes behind it by what its row is about
   module _ (about : R → About) where
-    abbrev pub front_row : P → Local V R → R → P × Local V R
-    front_row p l row = let x = r.acts p l.seat l.regs row in (x.part, follows r.calls (record l { seat = x.seat; regs = x.regs }) (call_about (about row)) x.next)
-
     abbrev pub front_after : P → Local V R → Step R → P × Local V R
-    front_after p l (step.Front row) = front_row p l row
+    front_after p l (step.Front row) =
+        let x = r.acts p l.seat l.regs row in
+        (x.part, follows r.calls (record l { seat = x.seat; regs = x.regs }) (call_about (about row)) x.next)
     front_after p l other = (p, l)
 
   -- whether it is polite

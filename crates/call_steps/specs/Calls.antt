@@ -10,13 +10,6 @@ use Rattle.call_steps.specs.declared.step.Giving.TheVariants as giving
 use Rattle.call_steps.specs.declared.step.Onward.{Onward}
 use Rattle.call_steps.specs.declared.step.Onward.TheVariants as onward
 
--- the calls of what a call has under way
-abbrev pub asks : Asking → Call
-asks a = Malloc a.label a.size
-
-abbrev pub frees : Freeing → Call
-frees f = Free f.label
-
 -- What a row is about that may have objects in hand: an allocation that isn't decided, one that is to be published, a free
 -- that isn't decided, or a call without a label, with that call while it isn't decided.
 pub data About : Type 0 where
@@ -44,7 +37,7 @@ HasNoLabel about = ⊥
 
 -- the call that a row is about, while it isn't decided
 abbrev pub call_about : About → Option Call
-call_about (Asks a) = Some (asks a)
+call_about (Asks a) = Some (Malloc a.label a.size)
 call_about (Publishes s) = None
-call_about (Frees f) = Some (frees f)
+call_about (Frees f) = Some (Free f.label)
 call_about (Other o) = o

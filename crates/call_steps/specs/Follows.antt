@@ -67,18 +67,15 @@ abbrev pub says : {V R : Type 0} → Local V R → Option Call → Answer → Lo
 says l None answer = l
 says l (Some call) answer = decided l call answer
 
-abbrev pub goes_or_ends : {V R : Type 0} → FrontCalls V R → Local V R → Option R → Local V R
-goes_or_ends e l None = ends e l
-goes_or_ends e l (Some row) = goes l (step.Front row)
-
 -- what comes next in the call under way, which may be undecided
 abbrev pub follows : {V R : Type 0} → FrontCalls V R → Local V R → Option Call → Next R → Local V R
 follows e l call (next.Row row) = goes l (step.Front row)
 follows e l call (next.Serve asking) = serves e l asking
 follows e l call (next.Fetch asking) = goes l (step.Shard (shard.Fetch asking))
 follows e l call (next.Give g) = goes l (step.Shard (shard.Give g))
-follows e l call (next.Gave g) = gave e l g
+follows e l call (next.Gave g) = gave e l g l.freed.items
 follows e l call (next.Publish s) = publishes l s
 follows e l call (next.Freed f) = ends e (decided l (Free f.label) (Freed f.addr))
-follows e l call (next.Decide answer row) = goes_or_ends e (says l call answer) row
+follows e l call (next.Decide answer None) = ends e (says l call answer)
+follows e l call (next.Decide answer (Some row)) = goes (says l call answer) (step.Front row)
 follows e l call next.End = ends e l

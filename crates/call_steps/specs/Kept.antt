@@ -34,9 +34,6 @@ abbrev pub IsLowWant : Option Target → Type 0
 IsLowWant None = Unit {0}
 IsLowWant (Some t) = IsLowTarget t
 
-abbrev pub target_of : {V R : Type 0} → (V → Regs → R → ℕ) → Local V R → Option Target
-target_of place l = target_at place l l.step
-
 -- the first calls of a script with their answers
 abbrev pub decided_by : List Planned → List Answered → List Decided
 decided_by script [] = []

@@ -1,11 +1,11 @@
 -- What one thread has: the state of its call under way, what that has in hand, the calls behind it, and its answers.
 use Rattle.std.specs.Prelude.{ℕ, ◌+◌, List, [], ◌∷◌, ◌++◌, drop, Option, Some, None, slice_get}
 use Rattle.std.specs.List.{slice_index_or}
+use Rattle.std.specs.Option.{option_map_or}
 use Rattle.tc_units.specs.Bag.{Contents}
 use Rattle.tc_units.specs.Classes.{class_of}
 use Rattle.tc_units.specs.declared.units.Class.{Class}
 use Rattle.tc_units.specs.declared.units.ThreadNo.{ThreadNo}
-use Rattle.tc_units.specs.declared.units.Label.{Label}
 use Rattle.tc_units.specs.declared.spans.SpanRef.{SpanRef}
 use Rattle.tc_units.specs.declared.spans.ClassRow.{ClassRow}
 use Rattle.tc_model.specs.declared.calls.Call.{Call}
@@ -50,50 +50,38 @@ step_or other None = other
 step_or other (Some row) = step.Front row
 
 -- the first act of a call, of a thread that is seated so
-abbrev pub first_of_malloc : {V R : Type 0} → FrontCalls V R → V → Option Class → Label → ℕ → Step R
-first_of_malloc e v None label size = step.Heap (New label size)
-first_of_malloc e v (Some k) label size = let a : Asking = record { label = label; size = size } in step_or (step.Shard (Fetch a)) (e.first v a)
-
 abbrev pub first_of_call : {V R : Type 0} → FrontCalls V R → V → Call → Step R
-first_of_call e v (Malloc label size) = first_of_malloc e v (class_of e.rows size) label size
+first_of_call e v (Malloc label size) =
+    let a : Asking = record { label = label; size = size } in
+    option_map_or (λ k. step_or (step.Shard (Fetch a)) (e.first v a)) (class_of e.rows size) (step.Heap (New label size))
 first_of_call e v (Free label) = step.Names (Take label)
 first_of_call e v (Release pages) = step.Heap (Unback pages)
 first_of_call e v (Drain cpu) = step_or step.Ended (e.other v (Drain cpu))
 first_of_call e v (Resize cpu class cap) = step_or step.Ended (e.other v (Resize cpu class cap))
 
--- the registers at the begin of a call: it has executed no instruction, and they are of its class where it has one
-abbrev pub regs_of_malloc : {V R : Type 0} → FrontCalls V R → Option Class → Regs → Regs
-regs_of_malloc e None r = r
-regs_of_malloc e (Some k) r = e.to_first (record r { class = k })
-
+-- the registers at the begin of a call: they are of its class where it has one
 abbrev pub regs_of_call : {V R : Type 0} → FrontCalls V R → Call → Regs → Regs
-regs_of_call e (Malloc label size) r = regs_of_malloc e (class_of e.rows size) r
+regs_of_call e (Malloc label size) r = option_map_or (λ k. e.to_first (record r { class = k })) (class_of e.rows size) r
 regs_of_call e (Free label) r = r
 regs_of_call e (Release pages) r = r
 regs_of_call e (Drain cpu) r = e.to_other (Drain cpu) r
 regs_of_call e (Resize cpu class cap) r = e.to_other (Resize cpu class cap) r
 
-abbrev pub fresh_regs : {V R : Type 0} → FrontCalls V R → Call → Regs → Regs
-fresh_regs e call r = record (regs_of_call e call r) { ran = 0 }
-
--- the first act and the registers of the call that is planned next, or none where the script has ended
+-- the first act and the registers of the call that is planned next, which has executed no instruction, or none where the script
+-- has ended
 abbrev pub first_act : {V R : Type 0} → FrontCalls V R → V → Option Planned → Step R
 first_act e v None = step.Ended
 first_act e v (Some p) = first_of_call e v p.call
 
 abbrev pub regs_by : {V R : Type 0} → FrontCalls V R → Option Planned → Regs → Regs
 regs_by e None r = r
-regs_by e (Some p) r = fresh_regs e p.call r
+regs_by e (Some p) r = record (regs_of_call e p.call r) { ran = 0 }
 
 -- the thread comes to the first of these calls, or its script has ended
 abbrev pub next_call : {V R : Type 0} → FrontCalls V R → Local V R → List Planned → Local V R
 next_call e l calls =
-    record l {
-      step = first_act e (e.begins l.seat (slice_get calls 0)) (slice_get calls 0);
-      regs = regs_by e (slice_get calls 0) l.regs;
-      seat = e.begins l.seat (slice_get calls 0);
-      rest = drop 1 calls;
-    }
+    let first = slice_get calls 0 in
+    let seat = e.begins l.seat first in record l { step = first_act e seat first; regs = regs_by e first l.regs; seat = seat; rest = drop 1 calls }
 
 abbrev pub thread_no : ℕ → ThreadNo
 thread_no t = record { 0 = t }
@@ -125,12 +113,10 @@ abbrev pub goes : {V R : Type 0} → Local V R → Step R → Local V R
 goes l next = record l { step = next; acts = l.acts + 1 }
 
 -- an act that ends the call: a row of the front-end may come before the next one
-abbrev pub closes : {V R : Type 0} → FrontCalls V R → Local V R → Option R → Local V R
-closes e l None = next_call e (record l { ended = l.ended + 1 }) l.rest
-closes e l (Some row) = record l { step = step.Front row }
-
 abbrev pub ends : {V R : Type 0} → FrontCalls V R → Local V R → Local V R
-ends e l = closes e (record l { acts = l.acts + 1 }) (e.last l.seat)
+ends e l =
+    let done = record l { acts = l.acts + 1 } in
+    option_map_or (λ row. record done { step = step.Front row }) (e.last l.seat) (next_call e (record done { ended = l.ended + 1 }) l.rest)
 
 -- the row of a class, and that of the thread's class
 abbrev pub row_of : List ClassRow → Class → ClassRow

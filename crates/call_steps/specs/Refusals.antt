@@ -1,23 +1,18 @@
 -- Which answers refuse a call, and which steps may give them.
 use Rattle.std.specs.Prelude.{Bool, true, false}
 use Rattle.tc_model.specs.declared.answers.Answer.{Answer}
-use Rattle.tc_model.specs.declared.answers.Answer.TheVariants.{Block, NoBlock, Freed, FreedNull, Released, Drained, Busy, CapSet, OverLimit, OverStatic}
+use Rattle.tc_model.specs.declared.answers.Answer.TheVariants.{NoBlock, Busy, OverLimit, OverStatic}
 use Rattle.call_steps.specs.declared.step.Step.{Step}
 use Rattle.call_steps.specs.declared.step.Step.TheVariants as does
 use Rattle.call_steps.specs.Rows.{step_rule}
 
 -- whether an answer refuses its call
 abbrev pub is_refusal : Answer → Bool
-is_refusal (Block addr len) = false
 is_refusal NoBlock = true
-is_refusal (Freed addr) = false
-is_refusal FreedNull = false
-is_refusal (Released pages) = false
-is_refusal (Drained objects) = false
 is_refusal (Busy owner) = true
-is_refusal CapSet = false
 is_refusal (OverLimit sum) = true
 is_refusal (OverStatic most) = true
+is_refusal answer = false
 
 -- which steps may refuse their call, and how, by the refusals of the front-end's rows
 abbrev pub may_refuse : {R : Type 0} → (R → Answer → Bool) → Step R → Answer → Bool

@@ -1,7 +1,7 @@
 //! The acts at the parts of the front-end.
 ghost use Rattle.std.specs.Prelude.{◌≡◌, ◌<◌, ◌-◌, ◌^◌, OnOk, OnErr};
 ghost use Rattle.call_steps.specs.Acts.{front_after, front_yields};
-ghost use Rattle.call_steps.specs.Fits.{FitsFrontStep};
+ghost use Rattle.call_steps.specs.Fits.{FitsFront};
 
 use crate::front::FrontEnd;
 use crate::local::Local;
@@ -16,7 +16,7 @@ pub fn act_front<F: FrontEnd>(
     part: &mut F::Part,
     local: &mut Local<F>,
 ) -> Result<(), AllocError>
-    requires fits { FitsFrontStep (F.fits setting.now) part.old local.old local.old.step }
+    requires fits { FitsFront (F.fits setting.now) part.old local.old local.old.step }
     requires acts { local.old.acts < 2 ^ 64 - 1 }
     ensures part { OnOk result (part.new ≡ (front_after (F.rules setting.now) F.about part.old local.old local.old.step).0) }
     ensures local { OnOk result (local.new ≡ (front_after (F.rules setting.now) F.about part.old local.old local.old.step).1) }
@@ -40,7 +40,7 @@ pub fn act_front<F: FrontEnd>(
 
 /// Whether it is polite to let the thread act at a part of the front-end now.
 pub fn yields<F: FrontEnd>(setting: &Setting, part: &F::Part, local: &Local<F>) -> bool
-    requires { FitsFrontStep (F.fits setting.now) part.now local.now local.now.step }
+    requires { FitsFront (F.fits setting.now) part.now local.now local.now.step }
     ensures { result ≡ front_yields (F.rules setting.now) part.now local.now local.now.step }
 {
     match local.step {

@@ -1,11 +1,13 @@
 //! How a call goes on with the objects that it has in hand.
-ghost use Rattle.std.specs.Prelude.{◌≡◌, ◌-◌, ◌<◌, ◌^◌, length, None, Some, is_some, true};
+ghost use Rattle.std.specs.Prelude.{◌≡◌, ◌-◌, ◌<◌, ◌^◌, [], length, None, Some, is_some, true};
+ghost use Rattle.tc_model.specs.declared.calls.Call.TheVariants.{Malloc};
 ghost use Rattle.call_steps.specs.declared.step.Next.TheVariants as next;
 ghost use Rattle.call_steps.specs.declared.step.Step.TheVariants as does;
 ghost use Rattle.call_steps.specs.declared.step.NamesStep.TheVariants as named;
-ghost use Rattle.call_steps.specs.Calls.{asks, about_giving, about_onward, call_about};
+ghost use Rattle.call_steps.specs.Calls.{about_giving, about_onward, call_about};
 ghost use Rattle.call_steps.specs.Rows.{undecided, under, without_call};
-ghost use Rattle.call_steps.specs.Hands.{serves, stock_step, stock_regs, comes_to, goes_onward, clears, gave};
+ghost use Rattle.call_steps.specs.Local.{goes};
+ghost use Rattle.call_steps.specs.Hands.{serves, stock_step, stock_regs, clears, gave};
 ghost use Rattle.call_steps.specs.Follows.{MayGoOnDecided, MayFollow, follows};
 
 use crate::front::FrontEnd;
@@ -24,7 +26,7 @@ impl<F: FrontEnd> Local<F> {
         requires acts { self.old.acts < 2 ^ 64 - 1 }
         requires class { self.old.regs.class.0 < length (F.rules setting.now).calls.rows }
         requires some { 0 < length self.old.regs.hand.items }
-        requires asks { undecided F.about self.old.step ≡ Some (asks asking) }
+        requires asks { undecided F.about self.old.step ≡ Some (Malloc asking.label asking.size) }
         ensures { self.new ≡ serves (F.rules setting.now).calls self.old asking }
     {
         let Some(addr) = self.regs.hand.take_first() else {
@@ -46,7 +48,7 @@ impl<F: FrontEnd> Local<F> {
         requires acts { self.old.acts < 2 ^ 64 - 1 }
         requires call { undecided F.about self.old.step ≡ call_about (F.about row) }
         requires under { under F.about self.old.step ≡ without_call (call_about (F.about row)) }
-        ensures { self.new ≡ comes_to self.old class row }
+        ensures { self.new ≡ goes (record self.old { regs = record self.old.regs { class = class } }) (does.Front row) }
     {
         self.regs.class = class;
         self.go(Step::Front(row));
@@ -57,7 +59,7 @@ impl<F: FrontEnd> Local<F> {
         requires acts { self.old.acts < 2 ^ 64 - 1 }
         requires call { undecided F.about self.old.step ≡ call_about (about_onward F.about onward) }
         requires under { under F.about self.old.step ≡ without_call (call_about (about_onward F.about onward)) }
-        ensures { self.new ≡ goes_onward (F.rules setting.now).calls self.old onward }
+        ensures { self.new ≡ clears (F.rules setting.now).calls self.old onward [] }
     {
         match onward {
             Onward::Publish(serving) => self.go(publish(serving)),
@@ -86,7 +88,7 @@ impl<F: FrontEnd> Local<F> {
         requires acts { self.old.acts < 2 ^ 64 - 1 }
         requires call { undecided F.about self.old.step ≡ call_about (about_giving F.about giving) }
         requires under { under F.about self.old.step ≡ without_call (call_about (about_giving F.about giving)) }
-        ensures { self.new ≡ gave (F.rules setting.now).calls self.old giving }
+        ensures { self.new ≡ gave (F.rules setting.now).calls self.old giving self.old.freed.items }
     {
         match giving {
             Giving::Rest(serving) => self.clear(setting, Onward::Publish(serving)),

@@ -6,7 +6,7 @@ ghost use Rattle.holdings.specs.Runs.{address_of, run_of};
 ghost use Rattle.call_steps.specs.declared.step.Step.TheVariants as does;
 ghost use Rattle.call_steps.specs.declared.step.NamesStep.TheVariants as named;
 ghost use Rattle.call_steps.specs.Acts.{heap_after};
-ghost use Rattle.call_steps.specs.Fits.{FitsHeapStep};
+ghost use Rattle.call_steps.specs.Fits.{FitsHeap};
 
 use crate::front::FrontEnd;
 use crate::local::Local;
@@ -20,7 +20,7 @@ use tc_units::{Label, PAGE_BYTES, Run, SpanRef, addr_of, pages_for};
 /// a large block, or of none; it frees a run, which decides the free of a large block; or it unbacks free
 /// pages, which decides a release, whose answer is how many pages lost their backing.
 pub fn act_heap<F: FrontEnd>(setting: &Setting, heap: &mut PageHeap, local: &mut Local<F>)
-    requires fits { FitsHeapStep (F.rules setting.now).calls.rows heap.old local.old local.old.step }
+    requires fits { FitsHeap (F.rules setting.now).calls.rows heap.old local.old local.old.step }
     requires acts { local.old.acts < 2 ^ 64 - 1 }
     ensures heap { heap.new ≡ (heap_after (F.rules setting.now).calls heap.old local.old local.old.step).0 }
     ensures local { local.new ≡ (heap_after (F.rules setting.now).calls heap.old local.old local.old.step).1 }

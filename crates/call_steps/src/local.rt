@@ -4,7 +4,7 @@ ghost use Rattle.std.specs.Prelude.{◌≡◌, ℕ, ◌+◌, ◌-◌, ◌<◌, �
 ghost use Rattle.tc_model.specs.declared.calls.Call as call;
 ghost use Rattle.call_steps.specs.Local.{next_call, step_or, first_of_call, regs_of_call, first_act, regs_by, first_local, goes, ends, decided, told};
 ghost use Rattle.call_steps.specs.Rows.{undecided, under, IsOf};
-ghost use Rattle.call_steps.specs.Kept.{target_of, IsLowWant, over};
+ghost use Rattle.call_steps.specs.Kept.{target_at, IsLowWant, over};
 
 use crate::front::FrontEnd;
 use crate::setting::Setting;
@@ -81,7 +81,7 @@ impl<F: FrontEnd> Local<F> {
 
     /// The part that the next act is on. `None` where the script has ended.
     pub fn want(&self, setting: &Setting) -> Option<Target>
-        ensures target { result ≡ target_of (F.rules setting.now).place self.now }
+        ensures target { result ≡ target_at (F.rules setting.now).place self.now self.now.step }
         ensures low { IsLowWant result }
     {
         match &self.step {

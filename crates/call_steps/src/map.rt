@@ -3,7 +3,7 @@ ghost use Rattle.std.specs.Prelude.{◌≡◌, ◌<◌, ◌-◌, ◌^◌, OnOk, 
 ghost use Rattle.call_steps.specs.declared.step.Step.TheVariants as does;
 ghost use Rattle.call_steps.specs.declared.step.MapStep.TheVariants.{Lookup};
 ghost use Rattle.call_steps.specs.Acts.{map_after, found};
-ghost use Rattle.call_steps.specs.Fits.{FitsMapStep};
+ghost use Rattle.call_steps.specs.Fits.{FitsMap};
 
 use crate::front::FrontEnd;
 use crate::heap::run_of;
@@ -31,7 +31,7 @@ pub fn act_map<F: FrontEnd>(
     map: &mut PageMap,
     local: &mut Local<F>,
 ) -> Result<(), AllocError>
-    requires fits { FitsMapStep map.old local.old local.old.step }
+    requires fits { FitsMap map.old local.old local.old.step }
     requires acts { local.old.acts < 2 ^ 64 - 1 }
     ensures map { OnOk result (map.new ≡ (map_after (F.rules setting.now).calls map.old local.old local.old.step).0) }
     ensures local { OnOk result (local.new ≡ (map_after (F.rules setting.now).calls map.old local.old local.old.step).1) }

@@ -2,7 +2,7 @@
 ghost use Rattle.std.specs.Prelude.{◌≡◌, ◌<◌, ◌-◌, ◌^◌};
 ghost use Rattle.tc_model.specs.Steps.{acted};
 ghost use Rattle.call_steps.specs.Acts.{names_after, waits_for};
-ghost use Rattle.call_steps.specs.Fits.{FitsNamesStep};
+ghost use Rattle.call_steps.specs.Fits.{FitsNames};
 
 use crate::front::FrontEnd;
 use crate::local::Local;
@@ -18,7 +18,7 @@ pub fn act_names<F: FrontEnd>(
     names: &mut NameTable,
     local: &mut Local<F>,
 ) -> Acted
-    requires fits { FitsNamesStep names.old local.old.step }
+    requires fits { FitsNames names.old local.old.step }
     requires acts { local.old.acts < 2 ^ 64 - 1 }
     ensures names { names.new ≡ (names_after (F.rules setting.now).calls names.old local.old local.old.step).0 }
     ensures local { local.new ≡ (names_after (F.rules setting.now).calls names.old local.old local.old.step).1 }
@@ -47,7 +47,7 @@ pub fn act_names<F: FrontEnd>(
 
 /// Whether the thread's next act takes a label that isn't published.
 pub fn waits<F: FrontEnd>(names: &NameTable, local: &Local<F>) -> bool
-    requires { FitsNamesStep names.now local.now.step }
+    requires { FitsNames names.now local.now.step }
     ensures { result ≡ waits_for names.now local.now.step }
 {
     match local.step() {

@@ -9,7 +9,7 @@ ghost use Rattle.call_steps.specs.Local.{class_row};
 ghost use Rattle.call_steps.specs.Hands.{given_back};
 ghost use Rattle.call_steps.specs.ShardActs.{fetches, adds};
 ghost use Rattle.call_steps.specs.Acts.{shard_after};
-ghost use Rattle.call_steps.specs.Fits.{FitsBatch, FitsAdd, FitsGive, FitsShardStep};
+ghost use Rattle.call_steps.specs.Fits.{FitsBatch, FitsAdd, FitsGive, FitsShard};
 
 use crate::front::FrontEnd;
 use crate::local::Local;
@@ -26,7 +26,7 @@ pub fn act_shard<F: FrontEnd>(
     shard: &mut ClassShard,
     local: &mut Local<F>,
 ) -> Result<(), AllocError>
-    requires fits { FitsShardStep (F.rules setting.now).calls.rows shard.old local.old local.old.step }
+    requires fits { FitsShard (F.rules setting.now).calls.rows shard.old local.old local.old.step }
     requires acts { local.old.acts < 2 ^ 64 - 1 }
     ensures shard { OnOk result (shard.new ≡ (shard_after (F.rules setting.now).calls shard.old local.old local.old.step).0) }
     ensures local { OnOk result (local.new ≡ (shard_after (F.rules setting.now).calls shard.old local.old local.old.step).1) }

@@ -7,16 +7,13 @@ use Rattle.std.proofs.lemmas.Bool.Decides.{nat_tests}
 use Rattle.tc_units.specs.declared.units.Addr.{Addr}
 use Rattle.tc_units.specs.declared.spans.ClassRow.{ClassRow}
 use Rattle.span_list.specs.Span.{SpanState, least, taken_from, after_take, free_count}
-use Rattle.central_free.specs.Central.{Took, taken, and_then, taken_one, IsSound, IsOfRow}
+use Rattle.central_free.specs.Central.{taken, taken_one, IsSound, IsOfRow}
 use Rattle.central_free.specs.Runs.{span_after, given_by}
 use Rattle.central_free.specs.Slots.{weight}
 use Rattle.central_free.proofs.ChoiceFacts.{IsBestPlace, weight-free, taken_one-is}
 use Rattle.central_free.proofs.SoundFacts.{has_pages, IsOfRow-after_take, IsSound-set, span-after_take}
 use Rattle.central_free.proofs.RunFacts.{run_counts}
-use Rattle.central_free.proofs.TookFacts.{joined, taken-add}
-
-abbrev took : List Addr → List SpanState → Took
-took objects spans = record { objects = objects; spans = spans }
+use Rattle.central_free.proofs.TookFacts.{and_then, joined, taken-add, took}
 
 -- the span goes on to be the best
 best_stays : (spans : List SpanState) (j : ℕ) (s t : SpanState) → j < length spans → ((d : SpanState) → get_or spans j d ≡ s)

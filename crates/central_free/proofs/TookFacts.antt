@@ -2,7 +2,7 @@
 use Rattle.std.proofs.Common.{◌≡◌, ◌≢◌, ℕ, zero, suc, ◌+◌, ◌-◌, ◌<◌, ◌≤◌, ◌⊎◌, ◌↔◌, Bool, List, [], ◌∷◌}
 use Rattle.std.proofs.Common.{◌++◌, length, get_or, set, count_by, Option, Some, None, refl, sym, ◌∙◌, ap, subst, inl, arith}
 use Rattle.std.specs.Prelude.{All}
-use Rattle.std.specs.Option.{option_map}
+use Rattle.std.specs.Option.{option_and_then, option_map, option_map_or}
 use Rattle.std.proofs.lemmas.List.{append_assoc, append-nil, length-append}
 use Rattle.std.proofs.lemmas.List.Elements.{All-nil, All-append}
 use Rattle.std.proofs.lemmas.Option.{none-some}
@@ -13,9 +13,20 @@ use Rattle.tc_units.specs.declared.spans.ClassRow.{ClassRow}
 use Rattle.tc_units.specs.Bag.{Contents}
 use Rattle.span_list.specs.Span.{SpanState, free_count, least, taken_from, after_take}
 use Rattle.span_list.proofs.SpanFacts.{count_none}
-use Rattle.central_free.specs.Central.{Central, chosen, place_at, taken_one, taken_one_from, Took, taken, and_then, IsSound, IsTakenIn, AreDifferent, free_in}
+use Rattle.central_free.specs.Central.{Central, chosen, place_at, taken_one, Took, taken, IsSound, IsTakenIn, AreDifferent, free_in}
 use Rattle.central_free.proofs.Differ.{AreDifferent-append}
 use Rattle.central_free.proofs.ChoiceFacts.{chosen_among, chosen_none, chosen_some}
+
+-- one object of a span that was chosen, if any
+abbrev pub taken_one_from : List SpanState → Option SpanState → Option (Addr × List SpanState)
+taken_one_from spans = option_and_then (λ s. option_map (λ a. (a, set spans (place_at s.span.first.0 spans) (after_take s (least s)))) (taken_from s (least s)))
+
+abbrev pub took : List Addr → List SpanState → Took
+took objects spans = record { objects = objects; spans = spans }
+
+-- one take, if it gave something, and more of them
+abbrev pub and_then : List SpanState → (List SpanState → Took) → Option (Addr × List SpanState) → Took
+and_then spans more one = option_map_or (λ a. took (a.0 ∷ (more a.1).objects) (more a.1).spans) one (took [] spans)
 
 -- where nothing is taken, no span has a free object, and the other way round
 one_none : (spans : List SpanState) (s : SpanState) (at : Option ℕ) → least s ≡ at
@@ -41,9 +52,6 @@ came_none n spans one is = grind (arith, nothing_free, none-some, nothing_taken)
 took_none : (n : ℕ) (spans : List SpanState) → (length (taken n spans).objects ≡ 0) ↔ ((n ≡ 0) ⊎ All (λ s. free_count s ≡ 0) spans)
 took_none zero spans = (λ _. inl refl, λ _. refl)
 took_none (suc n) spans = grind (arith, came_none n spans (taken_one spans) refl)
-
-abbrev took : List Addr → List SpanState → Took
-took objects spans = record { objects = objects; spans = spans }
 
 -- some takes, and more of them
 abbrev pub joined : Took → ℕ → Took

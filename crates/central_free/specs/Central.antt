@@ -1,7 +1,8 @@
 -- A central free list: which span an object is taken from, what a new span adds, and where an object that is put back goes.
-use Rattle.std.specs.Prelude.{◌≡◌, ◌≢◌, ℕ, zero, suc, ◌+◌, ◌-◌, ◌*◌, ◌<◌, ◌≤◌, ◌⊎◌, Bool, true, false, ◌==◌, ◌&&◌, ◌||◌, nat_lt, nat_le, min, List, [], ◌∷◌, ◌++◌, map, replicate, All, AllPairs, Any, Option, Some, None, slice_get, slice_set, if◌then◌else◌}
+use Rattle.std.specs.Prelude.{◌≡◌, ◌≢◌, ℕ, zero, suc, ◌+◌, ◌-◌, ◌*◌, ◌<◌, ◌≤◌, ◌⊎◌, Bool, true, false, ◌==◌, ◌&&◌, ◌||◌, nat_lt, nat_le, min, List, []}
+use Rattle.std.specs.Prelude.{◌∷◌, ◌++◌, map, replicate, All, AllPairs, Any, Option, Some, None, slice_get, slice_set, if◌then◌else◌}
 use Rattle.std.specs.List.{position_or_len, range_with_len, remove, flat_map}
-use Rattle.std.specs.Option.{option_map}
+use Rattle.std.specs.Option.{option_and_then, option_map, option_map_or}
 use Rattle.tc_units.specs.Units.{page_bytes}
 use Rattle.tc_units.specs.Sorted.{with_item}
 use Rattle.tc_units.specs.declared.units.Addr.{Addr}
@@ -38,27 +39,22 @@ abbrev pub place_at : ℕ → List SpanState → ℕ
 place_at first spans = position_or_len (λ s. s.span.first.0 == first) spans
 
 -- one object: the least free one of the chosen span, and the spans without it
-abbrev pub taken_one_from : List SpanState → Option SpanState → Option (Addr × List SpanState)
-taken_one_from spans None = None
-taken_one_from spans (Some s) =
-    option_map (λ a. (a, slice_set spans (place_at s.span.first.0 spans) (after_take s (least s)))) (taken_from s (least s))
-
 abbrev pub taken_one : List SpanState → Option (Addr × List SpanState)
-taken_one spans = taken_one_from spans (chosen spans)
+taken_one spans =
+    let without : SpanState → List SpanState = λ s. slice_set spans (place_at s.span.first.0 spans) (after_take s (least s)) in
+    option_and_then (λ s. option_map (λ a. (a, without s)) (taken_from s (least s))) (chosen spans)
 
 -- what several takes give: the objects in their order, and the spans without them
 pub record Took : Type 0 where
   pub objects : List Addr
   pub spans : List SpanState
 
-abbrev pub and_then : List SpanState → (List SpanState → Took) → Option (Addr × List SpanState) → Took
-and_then spans more None = record { objects = []; spans = spans }
-and_then spans more (Some one) = record { objects = one.0 ∷ (more one.1).objects; spans = (more one.1).spans }
-
 -- up to n objects, one by one
 abbrev pub taken : ℕ → List SpanState → Took
 taken zero spans = record { objects = []; spans = spans }
-taken (suc n) spans = and_then spans (taken n) (taken_one spans)
+taken (suc n) spans =
+    let with_more : Addr × List SpanState → Took = λ one. record { objects = one.0 ∷ (taken n one.1).objects; spans = (taken n one.1).spans } in
+    option_map_or with_more (taken_one spans) (record { objects = []; spans = spans })
 
 -- Adding. A span whose first n objects are taken, or all where it has fewer
 abbrev pub opened : SpanRef → ℕ → ℕ → SpanState

@@ -1,5 +1,7 @@
 //! The spans of one size class in the order of their first pages, and which of them serves next.
-ghost use Rattle.std.specs.Prelude.{◌≡◌, ◌≢◌, ℕ, ◌+◌, ◌-◌, ◌*◌, ◌^◌, ◌/◌, ◌<◌, ◌≤◌, ◌↔◌, ◌⊎◌, Bool, true, [], ◌∷◌, ◌++◌, All, Any, IfOk, IfSome, MatchOption, OnErr, OnOk, Some, None, count_by, drop, length, map, min, nat_le, replicate, slice_index, vec_len, vec_capacity, AllPairs};
+ghost use Rattle.std.specs.Prelude.{◌≡◌, ◌≢◌, ℕ, ◌+◌, ◌-◌, ◌*◌, ◌^◌, ◌/◌, ◌<◌, ◌≤◌, ◌↔◌, ◌⊎◌, Bool, true, [], ◌∷◌, ◌++◌, All, Any, IfOk, IfSome};
+ghost use Rattle.std.specs.Prelude.{MatchOption, OnErr, OnOk, Some, None, count_by, drop, length, map, min, nat_le, replicate, slice_index, vec_len};
+ghost use Rattle.std.specs.Prelude.{vec_capacity, AllPairs};
 ghost use Rattle.std.specs.List.{flat_map};
 ghost use Rattle.std.specs.Option.{option_to_list};
 ghost use Rattle.slab.specs.Slab.{HasRoomFor};

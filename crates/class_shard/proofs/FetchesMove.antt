@@ -1,5 +1,5 @@
 -- What a fetch leaves: the spans keep their pages, and objects only move.
-use Rattle.std.proofs.Common.{◌≡◌, ℕ, zero, suc, ◌+◌, ◌-◌, ◌<◌, ◌≤◌, Bool, true, false, List, [], ◌∷◌, length}
+use Rattle.std.proofs.Common.{◌≡◌, ℕ, zero, suc, ◌+◌, ◌<◌, ◌≤◌, Bool, true, false, List, [], ◌∷◌, length}
 use Rattle.std.proofs.Common.{get_or, set, count_by, Option, Some, None, cond, refl, sym, ◌∙◌, ap, subst, arith}
 use Rattle.std.specs.Option.{option_map}
 use Rattle.std.proofs.lemmas.List.{length-reverse, length-drop}
@@ -10,9 +10,10 @@ use Rattle.tc_units.specs.declared.units.Addr.{Addr}
 use Rattle.tc_units.specs.declared.spans.ClassRow.{ClassRow}
 use Rattle.span_list.specs.Span.{SpanState, address, least, with_object, taken_from, after_take}
 use Rattle.span_list.proofs.SpanFacts.{take_moves}
-use Rattle.central_free.specs.Central.{chosen, place_at, taken_one, taken_one_from, taken, and_then, IsOfRow, IsSound, free_in}
+use Rattle.central_free.specs.Central.{chosen, place_at, taken_one, taken, IsOfRow, IsSound, free_in}
 use Rattle.central_free.proofs.ChoiceFacts.{chosen_among, place_at-is}
 use Rattle.central_free.proofs.SoundFacts.{has_pages, IsOfRow-after_take, IsSound-set, count-set}
+use Rattle.central_free.proofs.TookFacts.{taken_one_from, and_then}
 use Rattle.transfer_cache.proofs.TransferFacts.{sum_by-reverse}
 use Rattle.class_shard.specs.Shard.{Shard, is_idle, fetched, after_fetch, places}
 use Rattle.class_shard.proofs.SpanSums.{central_of, pages_of, pages-set}

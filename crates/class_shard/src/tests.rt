@@ -122,6 +122,7 @@ fn a_batch_of_128_from_one_page(rt: HostRuntime) -> Result<(), Fail> {
         out.as_slice().last().copied(),
         Some(Addr(2097152 + 48 * 169))
     );
+    out.clear();
     assert_eq!(rt; shard.fetch(1, &mut out), Fetched::Miss);
     Ok(())
 }

@@ -8,15 +8,14 @@ use Rattle.std.specs.Prelude.{◌*◌, ◌≡◌, ℕ, ◌+◌, ◌-◌, ◌<◌
 use Rattle.tc_model.specs.declared.machine.PartNo.{PartNo}
 use Rattle.tc_model.specs.declared.steps.Stepped.TheVariants as step
 use Rattle.tc_model.specs.Steps.{stepped}
-use Rattle.tc_model.specs.Replays.{done_by, done_in, HaveEnded}
-use Rattle.tc_model.specs.Calls.{picks_of}
+use Rattle.tc_model.specs.Replays.{done_in, HaveEnded}
 use Rattle.tc_model.specs.Serial.{next_turn, AreThreads, NeverWaits, Rises, Ends}
 use Rattle.tc_model.proofs.RisesBy.{rises_by}
 use Rattle.counters.specs.declared.machine.Counter.{Counter}
 use Rattle.counters.specs.declared.machine.Worker.{Worker}
 use Rattle.counters.specs.declared.machine.Counters.{Counters}
 use Rattle.tc_model.specs.Run.{Rules, World, world_of, start, run, with_pair}
-use Rattle.tc_model.specs.Sound.{FitsThere, IsReady, IsSound, IsOrder}
+use Rattle.tc_model.specs.Sound.{FitsThere, IsReady, IsSound}
 
 abbrev pub counter : ℕ → Counter
 counter n = record { count = n }

@@ -1,8 +1,7 @@
 -- The laws: which objects an act moves, by its answer, and what else it keeps.
-use Rattle.std.proofs.Common.{◌≡◌, ℕ, ◌+◌, ◌-◌, ◌<◌, Bool, true, false, is_some, eqb, length, Option, Some, None, refl, ap, ◌∙◌, arith}
-use Rattle.std.proofs.lemmas.Bool.{eqb-true}
+use Rattle.std.proofs.Common.{◌≡◌, ℕ, ◌+◌, ◌<◌, Bool, true, false, Option, Some, None, ap, ◌∙◌, arith}
+use Rattle.std.specs.Option.{option_map_or}
 use Rattle.std.proofs.lemmas.List.{length-take}
-use Rattle.std.proofs.lemmas.Bool.Decides.{nat_tests}
 use Rattle.tc_units.specs.Bag.{Contents}
 use Rattle.tc_units.specs.declared.units.Addr.{Addr}
 use Rattle.cpu_slab.specs.Slots.{SlabRow, row_at, held}
@@ -10,21 +9,22 @@ use Rattle.cpu_slab.proofs.SlabFacts.{row_same, row_other, row_sound, row_slots}
 use Rattle.rseq_core.specs.declared.sequence.Pc.{Pc}
 use Rattle.rseq_core.specs.declared.sequence.Reply.{Reply}
 use Rattle.rseq_core.specs.declared.sequence.Reply.TheVariants.{Popped, Pushed, Empty, Full, Stopped}
+use Rattle.rseq_core.specs.declared.answers.Instructed.TheVariants.{Ran, Done}
 use Rattle.rseq_core.specs.declared.regs.Regs.{Regs}
 use Rattle.rseq_core.specs.declared.cpu_part.CpuPart.{CpuPart}
 use Rattle.rseq_core.specs.Bags.{room, emptied}
 use Rattle.rseq_core.specs.Tables.{Cell, is_pop, cell}
 use Rattle.rseq_core.specs.Agrees.{Agrees, IsSilent, Does}
-use Rattle.rseq_core.specs.Acts.{IsCurrent, runs, instruction, with_cell, answered, arrival, instructed_by, grew_by}
-use Rattle.rseq_core.proofs.CellKept.{CellOk, cell_ok}
+use Rattle.rseq_core.specs.Acts.{instruction, with_cell}
+use Rattle.rseq_core.proofs.CellKept.{cell_ok}
 use Rattle.rseq_core.proofs.Able.{KeepsRoom, able_from_agrees, cell_room}
 use Rattle.cpu_drain.specs.Seats.{CpuOk}
 use Rattle.cpu_drain.specs.Laws.{MovesNone, AnswerMoves, BeginsAfter, AreOfSame, Instructs, InstructDoes, Grows, GrowDoes, TakeDoes}
-use Rattle.cpu_drain.proofs.Steps.{runs_is}
+use Rattle.cpu_drain.proofs.Steps.{by_arrival}
 use Rattle.cpu_drain.proofs.Lawful.{growth_keeps}
 
 -- an instruction ends its sequence at the begin, and is counted
-cell_begins : (stopped pops : Bool) (row : SlabRow) (r : Regs) (pc : Pc) → BeginsAfter (answered (cell stopped pops row r pc).reply) (cell stopped pops row r pc).regs
+cell_begins : (stopped pops : Bool) (row : SlabRow) (r : Regs) (pc : Pc) → BeginsAfter (option_map_or Done (cell stopped pops row r pc).reply Ran) (cell stopped pops row r pc).regs
 cell_begins x0 x1 row r x4 = grind (arith)
 
 cell_ran : (stopped pops : Bool) (row : SlabRow) (r : Regs) (pc : Pc) → (cell stopped pops row r pc).regs.ran ≡ r.ran + 1
@@ -47,7 +47,7 @@ silent_moves : (old new : SlabRow) (r : Regs) (c : Cell) → new ≡ c.row → I
 silent_moves old new r c is quiet = record { row = ap held is ∙ quiet.row; hand = quiet.hand }
 
 cell_moves : (stopped : Bool) (old new : SlabRow) (r : Regs) (c : Cell) (o : Option Reply)
-    → new ≡ c.row → IsOfWay (is_pop r.seq) o → Does stopped old r c o → AnswerMoves (answered o) old new r c.regs
+    → new ≡ c.row → IsOfWay (is_pop r.seq) o → Does stopped old r c o → AnswerMoves (option_map_or Done o Ran) old new r c.regs
 cell_moves stopped old new r c x5 is way does = grind (arith)
 
 room_emptied : (bag : Contents Addr) → room (emptied bag) ≡ room bag
@@ -58,7 +58,7 @@ same_regs r after thread class seq rooms = record { thread = thread; class = cla
 
 module _ (m : ℕ) (p : CpuPart) (r : Regs) (cpu : CpuOk m p) (low : r.class.0 < m) where
   goes_does : Agrees (is_pop r.seq) (row_at p.slab r.class.0) r r.pc
-      → Instructs p r (record { cpu = with_cell p r (instruction p r); regs = (instruction p r).regs; answer = answered (instruction p r).reply })
+      → Instructs p r (record { cpu = with_cell p r (instruction p r); regs = (instruction p r).regs; answer = option_map_or Done (instruction p r).reply Ran })
   goes_does agrees = grind (
     arith,
     row_sound p.slab,
@@ -74,20 +74,11 @@ module _ (m : ℕ) (p : CpuPart) (r : Regs) (cpu : CpuOk m p) (low : r.class.0 <
     cell_ran,
   )
 
-  does_by : (IsCurrent r.thread p r → Agrees (is_pop r.seq) (row_at p.slab r.class.0) r r.pc) → (a b : Bool)
-      → runs p.running r.thread ≡ a → eqb r.epoch p.epoch ≡ b → Instructs p r (instructed_by (arrival a b) p r)
-  does_by agrees a b here now = grind (arith, nat_tests, room_emptied, goes_does, runs_is)
-
-  grows_by : (a b : Bool) → Grows p r (grew_by (arrival a b) p r)
-  grows_by false b = grind (arith, room_emptied)
-  grows_by true false = grind (arith, room_emptied)
-  grows_by true true = grind (arith, growth_keeps p r.class.0 cpu.sound)
-
 pub instruct_does : InstructDoes
-instruct_does m p r cpu low agrees = does_by m p r cpu low agrees (runs p.running r.thread) (eqb r.epoch p.epoch) refl refl
+instruct_does m p r cpu low agrees = by_arrival (Instructs p r) _ _ _ p r (λ away. grind (arith, room_emptied)) (grind (arith, room_emptied)) (λ now. goes_does m p r cpu low (agrees now))
 
 pub grow_does : GrowDoes
-grow_does m p r cpu low = grows_by m p r cpu low (runs p.running r.thread) (eqb r.epoch p.epoch)
+grow_does m p r cpu low = by_arrival (Grows p r) _ _ _ p r (λ away. grind (arith, room_emptied)) (grind (arith, room_emptied)) (λ now. grind (arith, growth_keeps p r.class.0 cpu.sound))
 
 pub take_does : TakeDoes
 take_does m k p out cpu low = grind (arith, row_sound, row_slots, length-take, row_other, row_same)

@@ -1,7 +1,8 @@
 -- The laws: each act of a thread keeps what holds of its CPU and of all threads.
-use Rattle.std.proofs.Common.{◌≡◌, ℕ, ◌<◌, Bool, true, false, is_some, cond, eqb, ltb, length, Option, Some, None, refl, sym, ap, ◌∙◌, subst, arith, inl, inr}
+use Rattle.std.proofs.Common.{◌≡◌, ℕ, ◌+◌, ◌<◌, true, false, is_some, cond, ltb, length, Option, Some, sym, ap, ◌∙◌, subst, arith, inl, inr}
 use Rattle.std.proofs.Common.{◌⊎◌}
-use Rattle.std.proofs.lemmas.Bool.{cond_both, cases_eq, eqb-true, ltb-false}
+use Rattle.std.specs.Option.{option_or}
+use Rattle.std.proofs.lemmas.Bool.{cond_both}
 use Rattle.std.proofs.lemmas.List.{length-set}
 use Rattle.std.proofs.lemmas.Bool.Decides.{nat_tests}
 use Rattle.tc_units.specs.declared.units.ThreadNo.{ThreadNo}
@@ -12,52 +13,42 @@ use Rattle.cpu_slab.specs.Sound.{IsSoundSlab}
 use Rattle.cpu_slab.specs.Caps.{with_cap_if}
 use Rattle.cpu_slab.proofs.SlabFacts.{row_same, row_other, sound_top}
 use Rattle.cpu_slab.proofs.GrowthFacts.{KeepsObjects, keeps_same, keeps_cap, grown_keeps}
-use Rattle.rseq_core.specs.declared.sequence.Pc.TheVariants.{Begin}
+use Rattle.rseq_core.specs.declared.answers.Arrival.TheVariants as arrive
 use Rattle.rseq_core.specs.declared.cpu_part.CpuPart.{CpuPart}
-use Rattle.rseq_core.specs.Acts.{IsCurrent, runs, entered, entering, arrival, instructed_by, grew_by}
-use Rattle.cpu_drain.specs.Drains.{stopped_by}
+use Rattle.rseq_core.specs.Acts.{Acted, IsCurrent, arrival_at, regs_after, acted_by}
 use Rattle.cpu_drain.specs.Seats.{Seat, SeatKeeps, with_regs, standing_at}
 use Rattle.cpu_drain.specs.Laws.{IsHome, LeaveKeeps, InstructKeeps, GrowKeeps, StopKeeps, FenceKeeps, TakeKeeps, SetCapKeeps, StartKeeps, SetKeeps}
-use Rattle.cpu_drain.proofs.Steps.{runs_is}
+use Rattle.cpu_drain.proofs.Steps.{by_arrival}
 use Rattle.cpu_drain.proofs.Seated.{leave_keeps, enter_keeps, back_keeps, go_keeps, grow_keeps, stop_keeps, fence_keeps, slab_keeps, start_keeps, then_set}
 
 pub leaves : LeaveKeeps
 leaves m i to t p s home = leave_keeps home.part home.pair home.cpu to
 
--- the thread of the registers enters
-enters : (m i : ℕ) (t : ThreadNo) (p : CpuPart) (s : Seat) → IsHome m i t p s → SeatKeeps m i t p s (entered p s.regs.thread) (with_regs s (entering p s.regs))
-enters m i t p s home = subst (λ (u : ThreadNo). SeatKeeps m i t p s (entered p u) (with_regs s (entering p s.regs))) (sym home.thread) (enter_keeps home.part home.pair home.cpu)
-
-current : (m i : ℕ) (t : ThreadNo) (p : CpuPart) (s : Seat) → IsHome m i t p s → runs p.running s.regs.thread ≡ true → eqb s.regs.epoch p.epoch ≡ true → IsCurrent t p s.regs
-current m i t p s home here now = record { runs = runs_is p.running s.regs.thread here ∙ ap (λ (u : ThreadNo). Some u) home.thread; epoch = eqb-true s.regs.epoch p.epoch now }
-
-instructs_by : (m i : ℕ) (t : ThreadNo) (p : CpuPart) (s : Seat) → IsHome m i t p s → (a b : Bool) → runs p.running s.regs.thread ≡ a
-    → eqb s.regs.epoch p.epoch ≡ b → SeatKeeps m i t p s (instructed_by (arrival a b) p s.regs).cpu (with_regs s (instructed_by (arrival a b) p s.regs).regs)
-instructs_by m i t p s home false b here now = enters m i t p s home
-instructs_by m i t p s home true false here now = back_keeps home.part home.pair home.cpu
-instructs_by m i t p s home true true here now = go_keeps home.part home.pair home.cpu (current m i t p s home here now) home.class
+-- the thread of the registers comes, or does this act as a current one
+acts_by : {A : Type 0} (m i : ℕ) (t : ThreadNo) (p : CpuPart) (s : Seat) (came back : A) (act : Acted A) → IsHome m i t p s
+    → (IsCurrent t p s.regs → SeatKeeps m i t p s act.cpu (with_regs s act.regs))
+    → let x = acted_by came back act (arrival_at p s.regs) p s.regs in SeatKeeps m i t p s x.cpu (with_regs s x.regs)
+acts_by m i t p s came back act home goes =
+    by_arrival (λ x. SeatKeeps m i t p s x.cpu (with_regs s x.regs)) came back act p s.regs
+    (λ away. subst (λ (u : ThreadNo). SeatKeeps m i t p s (record p { running = Some u; epoch = p.epoch + 1; is_open = true; ran = 0 }) (with_regs s (regs_after arrive.In p s.regs)))
+    (sym home.thread) (enter_keeps home.part home.pair home.cpu)) (back_keeps home.part home.pair home.cpu)
+    (λ now. goes (subst (λ (u : ThreadNo). IsCurrent u p s.regs) home.thread now))
 
 pub instructs : InstructKeeps
-instructs m i t p s home = instructs_by m i t p s home (runs p.running s.regs.thread) (eqb s.regs.epoch p.epoch) refl refl
+instructs m i t p s home = acts_by m i t p s _ _ _ home (λ now. go_keeps home.part home.pair home.cpu now home.class)
 
 -- a growth, unless a stopper stands there
 pub growth_keeps : (p : CpuPart) (k : ℕ) → IsSoundSlab p.slab → k < length p.slab.rows → KeepsObjects p.slab (cond (is_some p.stopper) p.slab (grown p.slab k))
 growth_keeps p k sound low = cond_both (is_some p.stopper) p.slab (grown p.slab k) (KeepsObjects p.slab) (λ e. keeps_same p.slab sound) (λ e. grown_keeps p.slab k low sound)
 
-grows_by : (m i : ℕ) (t : ThreadNo) (p : CpuPart) (s : Seat) → IsHome m i t p s → s.regs.pc ≡ Begin → (a b : Bool) → runs p.running s.regs.thread ≡ a
-    → eqb s.regs.epoch p.epoch ≡ b → SeatKeeps m i t p s (grew_by (arrival a b) p s.regs).cpu (with_regs s (grew_by (arrival a b) p s.regs).regs)
-grows_by m i t p s home begin false b here now = enters m i t p s home
-grows_by m i t p s home begin true false here now = back_keeps home.part home.pair home.cpu
-grows_by m i t p s home begin true true here now =
-    let low : s.regs.class.0 < length p.slab.rows = omega (arith, home.class, home.part.classes) in
-    grow_keeps home.part home.pair _ (growth_keeps p s.regs.class.0 home.part.sound low) (current m i t p s home here now) begin
-
 pub grows : GrowKeeps
-grows m i t p s home begin = grows_by m i t p s home begin (runs p.running s.regs.thread) (eqb s.regs.epoch p.epoch) refl refl
+grows m i t p s home begin =
+    let low : s.regs.class.0 < length p.slab.rows = omega (arith, home.class, home.part.classes) in
+    acts_by m i t p s _ _ _ home (λ now. grow_keeps home.part home.pair _ (growth_keeps p s.regs.class.0 home.part.sound low) now begin)
 
 pub stops : StopKeeps
 stops m i t p s cpu pair begin nowhere none =
-    subst (λ (o : Option ThreadNo). SeatKeeps m i t p s (stopped_by o p t) (standing_at s i false (λ j. false))) (sym none) (stop_keeps cpu pair begin nowhere none)
+    subst (λ (o : Option ThreadNo). SeatKeeps m i t p s (record p { stopper = option_or o (Some t) }) (standing_at s i false (λ j. false))) (sym none) (stop_keeps cpu pair begin nowhere none)
 
 pub fences : FenceKeeps
 fences m i t p s old cpu pair begin is here = fence_keeps cpu pair begin old is here

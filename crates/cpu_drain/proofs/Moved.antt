@@ -1,24 +1,21 @@
 -- The laws: acts only move objects.
-use Rattle.std.proofs.Common.{◌≡◌, ℕ, ◌+◌, ◌<◌, Bool, true, false, is_some, eqb, List, [], ◌∷◌, length, get_or, reverse, sum_by, Option, Some, None, refl}
+use Rattle.std.proofs.Common.{◌≡◌, ℕ, ◌+◌, ◌<◌, List, [], ◌∷◌, length, get_or, sum_by, refl}
 use Rattle.std.proofs.Common.{sym, ap, ◌∙◌, arith}
 use Rattle.std.specs.List.{slice_set, flat_map}
 use Rattle.std.proofs.lemmas.Bool.{cond_both}
 use Rattle.std.proofs.lemmas.List.Sums.{sum_by-set, sum_by-append, sum_by-cons}
-use Rattle.std.proofs.lemmas.Bool.Decides.{nat_tests}
 use Rattle.tc_units.specs.declared.units.Addr.{Addr}
-use Rattle.tc_units.specs.declared.units.ThreadNo.{ThreadNo}
 use Rattle.cpu_slab.specs.Slots.{SlabRow, no_row, row_at, held}
 use Rattle.cpu_slab.proofs.SlabFacts.{row_sound}
 use Rattle.rseq_core.specs.declared.regs.Regs.{Regs}
 use Rattle.rseq_core.specs.declared.cpu_part.CpuPart.{CpuPart}
 use Rattle.rseq_core.specs.Tables.{is_pop}
 use Rattle.rseq_core.specs.Agrees.{Agrees}
-use Rattle.rseq_core.specs.Acts.{IsCurrent, runs, instruction, arrival, instructed_by, grew_by}
-use Rattle.rseq_core.proofs.CellKept.{CellOk, cell_ok, does_moves, sum_by-reverse}
-use Rattle.cpu_drain.specs.Drains.{stopped_by}
+use Rattle.rseq_core.specs.Acts.{instruction, with_cell}
+use Rattle.rseq_core.proofs.CellKept.{cell_ok, does_moves, sum_by-reverse}
 use Rattle.cpu_drain.specs.Seats.{objects_of, CpuOk}
 use Rattle.cpu_drain.specs.Laws.{InstructMoves, GrowMoves, AbortMoves, TakeMoves, RemoteMoves}
-use Rattle.cpu_drain.proofs.Steps.{runs_is}
+use Rattle.cpu_drain.proofs.Steps.{by_arrival}
 use Rattle.cpu_drain.proofs.Lawful.{growth_keeps, set_cap_keeps}
 
 -- a sum over joined lists is the sum of the sums
@@ -37,22 +34,17 @@ row_moves f rows k row low = grind (arith, sum_by-set, sum_by-flat_map)
 abbrev Stays : (Addr → ℕ) → CpuPart → Regs → CpuPart → Regs → Type 0
 Stays f p r new after = sum_by f (objects_of new.slab) + sum_by f after.hand.items ≡ sum_by f (objects_of p.slab) + sum_by f r.hand.items
 
-moves_by : (f : Addr → ℕ) (m : ℕ) (p : CpuPart) (r : Regs) → CpuOk m p → r.class.0 < m
-    → (IsCurrent r.thread p r → Agrees (is_pop r.seq) (row_at p.slab r.class.0) r r.pc) → (a b : Bool) → runs p.running r.thread ≡ a
-    → eqb r.epoch p.epoch ≡ b → Stays f p r (instructed_by (arrival a b) p r).cpu (instructed_by (arrival a b) p r).regs
-moves_by f m p r cpu low agrees a b here now = grind (arith, nat_tests, runs_is, cell_ok, row_sound, row_moves, does_moves)
+goes_moves : (f : Addr → ℕ) (m : ℕ) (p : CpuPart) (r : Regs) → CpuOk m p → r.class.0 < m → Agrees (is_pop r.seq) (row_at p.slab r.class.0) r r.pc
+    → Stays f p r (with_cell p r (instruction p r)) (instruction p r).regs
+goes_moves f m p r cpu low agrees = grind (arith, cell_ok, row_sound, row_moves, does_moves)
 
 pub instruct_moves : InstructMoves
-instruct_moves f m p r cpu low agrees = moves_by f m p r cpu low agrees (runs p.running r.thread) (eqb r.epoch p.epoch) refl refl
-
-grow_moves_by : (m : ℕ) (p : CpuPart) (r : Regs) → CpuOk m p → r.class.0 < m → (a b : Bool)
-    → (objects_of (grew_by (arrival a b) p r).cpu.slab ≡ objects_of p.slab) × ((grew_by (arrival a b) p r).regs.hand ≡ r.hand)
-grow_moves_by m p r cpu low false b = (refl, refl)
-grow_moves_by m p r cpu low true false = (refl, refl)
-grow_moves_by m p r cpu low true true = let within : r.class.0 < length p.slab.rows = omega (arith, cpu.classes) in let keeps = growth_keeps p r.class.0 cpu.sound within in (keeps.objects, refl)
+instruct_moves f m p r cpu low agrees = by_arrival (λ x. Stays f p r x.cpu x.regs) _ _ _ p r (λ away. refl) refl (λ now. goes_moves f m p r cpu low (agrees now))
 
 pub grow_moves : GrowMoves
-grow_moves m p r cpu low = grow_moves_by m p r cpu low (runs p.running r.thread) (eqb r.epoch p.epoch)
+grow_moves m p r cpu low =
+    by_arrival (λ x. (objects_of x.cpu.slab ≡ objects_of p.slab) × (x.regs.hand ≡ r.hand)) _ _ _ p r (λ away. (refl, refl)) (refl, refl)
+    (λ now. ((growth_keeps p r.class.0 cpu.sound (omega (arith, cpu.classes, low))).objects, refl))
 
 pub abort_moves : AbortMoves
 abort_moves p r = grind (arith, cond_both)
@@ -60,9 +52,5 @@ abort_moves p r = grind (arith, cond_both)
 pub take_moves : TakeMoves
 take_moves f m k p out cpu low = grind (arith, row_moves, sum_by-append, sum_by-reverse)
 
-stop_moves : (o : Option ThreadNo) (p : CpuPart) (t : ThreadNo) → (stopped_by o p t).slab ≡ p.slab
-stop_moves None p t = refl
-stop_moves (Some u) p t = refl
-
 pub remote_moves : RemoteMoves
-remote_moves m k n t p cpu low x7 = grind (arith, set_cap_keeps p.slab k n, stop_moves p.stopper p t)
+remote_moves m k n t p cpu low x7 = grind (arith, set_cap_keeps p.slab k n)

@@ -10,14 +10,14 @@ use Rattle.cpu_slab.proofs.SlabFacts.{row_same, row_sound, row_slots, used_same,
 use Rattle.cpu_slab.proofs.GrowthFacts.{KeepsObjects}
 use Rattle.rseq_core.specs.declared.sequence.Pc.TheVariants.{Begin}
 use Rattle.rseq_core.specs.declared.regs.Regs.{Regs}
+use Rattle.rseq_core.specs.declared.answers.Arrival.TheVariants as arrive
 use Rattle.rseq_core.specs.declared.cpu_part.CpuPart.{CpuPart}
 use Rattle.rseq_core.specs.Tables.{Cell, is_pop}
-use Rattle.rseq_core.specs.Agrees.{Agrees}
-use Rattle.rseq_core.specs.Acts.{IsCurrent, dropped, runs, left, entered, entering, backed, backing, instruction, with_cell}
-use Rattle.rseq_core.proofs.CellKept.{CellOk, cell_ok, RestsThen, cell_rests}
-use Rattle.cpu_drain.specs.Seats.{Standing, Seat, CpuOk, IsStopping, IsHeld, Holds, SeatOk, SeatKeeps, with_regs, AreSet}
+use Rattle.rseq_core.specs.Acts.{IsCurrent, dropped, runs, left, cpu_after, regs_after, instruction, with_cell}
+use Rattle.rseq_core.proofs.CellKept.{CellOk, cell_ok, cell_rests}
+use Rattle.cpu_drain.specs.Seats.{Standing, Seat, CpuOk, IsHeld, SeatOk, SeatKeeps, with_regs, AreSet}
 use Rattle.cpu_drain.specs.Drains.{fenced}
-use Rattle.cpu_drain.proofs.Steps.{some_is, agrees_begin, begin_nothing, begin_rests, agrees_at_rest, stage_kept}
+use Rattle.cpu_drain.proofs.Steps.{Holds, IsStopping, some_is, agrees_begin, begin_nothing, begin_rests, agrees_at_rest, stage_kept}
 
 one_runs : (o : Option ThreadNo) (t u : ThreadNo) → (u ≡ t → ⊥) → o ≡ Some t → o ≡ Some u → ⊥
 one_runs o t u apart mine other = let same : u ≡ t = (cc) in apart same
@@ -70,10 +70,10 @@ module _ {m i : ℕ} {t : ThreadNo} {p : CpuPart} {s : Seat} (cpu : CpuOk m p) (
     fresh p' r epoch pc nothing stopper fenced slab =
         set_pair i t p' s r s.standing (λ e. here) (λ e. omega arith) pc nothing (λ e. pair.stops (sym stopper ∙ e)) (same_stage i t p p' s.standing stopper fenced slab pair.stage)
 
-    pub enter_keeps : SeatKeeps m i t p s (entered p t) (with_regs s (entering p s.regs))
+    pub enter_keeps : SeatKeeps m i t p s (record p { running = Some t; epoch = p.epoch + 1; is_open = true; ran = 0 }) (with_regs s (regs_after arrive.In p s.regs))
     enter_keeps = grind (arith, fresh, away, one_runs, same_stage, not_there)
 
-    pub back_keeps : SeatKeeps m i t p s (backed p) (with_regs s (backing p s.regs))
+    pub back_keeps : SeatKeeps m i t p s (cpu_after arrive.Back p s.regs) (with_regs s (regs_after arrive.Back p s.regs))
     back_keeps = grind (arith, fresh, stays, same_stage, away, not_there)
 
     -- one instruction, by its cell

@@ -1,5 +1,6 @@
 -- What another thread does to a CPU: it stops it, fences it, takes its objects, sets a capacity, and starts it again.
 use Rattle.std.specs.Prelude.{◌≡◌, ℕ, ◌+◌, true, false, reverse, Option, Some, None}
+use Rattle.std.specs.Option.{option_or}
 use Rattle.tc_units.specs.declared.units.Addr.{Addr}
 use Rattle.tc_units.specs.declared.units.ThreadNo.{ThreadNo}
 use Rattle.tc_units.specs.Bag.{Contents}
@@ -11,12 +12,8 @@ use Rattle.cpu_drain.specs.declared.stopping.StopAnswer.{StopAnswer}
 use Rattle.cpu_drain.specs.declared.stopping.StopAnswer.TheVariants.{Stopped, Busy}
 
 -- a thread stops a CPU where nobody stands as stopper
-abbrev pub stopped_by : Option ThreadNo → CpuPart → ThreadNo → CpuPart
-stopped_by None p t = record p { stopper = Some t }
-stopped_by (Some u) p t = p
-
 abbrev pub stopped : CpuPart → ThreadNo → CpuPart
-stopped p t = stopped_by p.stopper p t
+stopped p t = record p { stopper = option_or p.stopper (Some t) }
 
 -- what a stop answers, by who stands there
 abbrev pub stop_answer : Option ThreadNo → StopAnswer

@@ -10,14 +10,15 @@ use Rattle.rseq_core.specs.declared.sequence.Reply.TheVariants as reply
 use Rattle.rseq_core.specs.declared.answers.Instructed.{Instructed}
 use Rattle.rseq_core.specs.declared.answers.Instructed.TheVariants as answer
 use Rattle.rseq_core.specs.declared.answers.Grew.{Grew}
+use Rattle.rseq_core.specs.declared.answers.Arrival.{Arrival}
 use Rattle.rseq_core.specs.declared.regs.Regs.{Regs}
 use Rattle.rseq_core.specs.Bags.{room}
 use Rattle.rseq_core.specs.declared.cpu_part.CpuPart.{CpuPart}
 use Rattle.rseq_core.specs.Tables.{is_pop, wanted}
 use Rattle.rseq_core.specs.Agrees.{Agrees}
-use Rattle.rseq_core.specs.Acts.{Acted, IsCurrent, dropped, left, entered, entering, backed, backing, instructed, grew_here}
+use Rattle.rseq_core.specs.Acts.{Acted, IsCurrent, dropped, left, cpu_after, regs_after, instructed, grew_here}
 use Rattle.cpu_drain.specs.Drains.{stopped, fenced, taken, taken_to, capped, started}
-use Rattle.cpu_drain.specs.Seats.{objects_of, Standing, Seat, CpuOk, SeatOk, SeatKeeps, with_regs, standing_at, IsFencing, AreSet}
+use Rattle.cpu_drain.specs.Seats.{objects_of, Standing, Seat, CpuOk, SeatOk, SeatKeeps, with_regs, standing_at, IsAtBegin, IsFencing, AreSet}
 
 -- a thread at its own CPU, with registers of its number and of a class that is there
 pub record IsHome (m i : ℕ) (t : ThreadNo) (p : CpuPart) (s : Seat) : Type 0 where
@@ -77,8 +78,7 @@ GrowMoves = (m : ℕ) (p : CpuPart) (r : Regs) → CpuOk m p → r.class.0 < m �
 -- leaving, switching in and going back, by which a sequence is aborted, move none
 abbrev pub AbortMoves : Type 0
 AbortMoves = (p : CpuPart) (r : Regs) → ((left p r.thread).slab ≡ p.slab) × ((dropped r).hand ≡ r.hand)
-    × ((entered p r.thread).slab ≡ p.slab) × ((entering p r).hand ≡ r.hand)
-    × ((backed p).slab ≡ p.slab) × ((backing p r).hand ≡ r.hand)
+    × ((a : Arrival) → ((cpu_after a p r).slab ≡ p.slab) × ((regs_after a p r).hand ≡ r.hand))
 
 -- taking a class moves its objects to the bag
 abbrev pub TakeMoves : Type 0
@@ -125,17 +125,12 @@ AnswerMoves answer.Back old new r after = MovesNone old new r after
 AnswerMoves answer.Ran old new r after = MovesNone old new r after
 AnswerMoves (answer.Done reply) old new r after = ReplyMoves reply old new r after
 
--- registers at their begin, with nothing loaded
-pub record AreAtBegin (r : Regs) : Type 0 where
-  pub pc : r.pc ≡ Begin
-  pub nothing : r.loaded.items ≡ []
-
 -- registers are at their begin, but where an instruction was executed that didn't end its sequence
 abbrev pub BeginsAfter : Instructed → Regs → Type 0
-BeginsAfter answer.In r = AreAtBegin r
-BeginsAfter answer.Back r = AreAtBegin r
+BeginsAfter answer.In r = IsAtBegin r
+BeginsAfter answer.Back r = IsAtBegin r
 BeginsAfter answer.Ran r = Unit {0}
-BeginsAfter (answer.Done reply) r = AreAtBegin r
+BeginsAfter (answer.Done reply) r = IsAtBegin r
 
 -- a pop has room for all that it wants
 pub record HasRoom (r : Regs) : Type 0 where
@@ -171,7 +166,7 @@ pub record Grows (p : CpuPart) (r : Regs) (x : Acted Grew) : Type 0 where
   pub rows : (k : ℕ) → held (row_at x.cpu.slab k) ≡ held (row_at p.slab k)
   pub hand : x.regs.hand.items ≡ r.hand.items
   pub same : AreOfSame r x.regs
-  pub begins : AreAtBegin r → AreAtBegin x.regs
+  pub begins : IsAtBegin r → IsAtBegin x.regs
   pub ran : x.regs.ran ≡ r.ran
   pub epoch : x.cpu.epoch ≤ p.epoch + 1
 

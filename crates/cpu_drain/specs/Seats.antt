@@ -1,5 +1,5 @@
 -- What holds between a CPU and each thread: a seat is what the CPU knows of a thread.
-use Rattle.std.specs.Prelude.{◌≡◌, ℕ, ◌≤◌, Bool, true, length, Option, Some, None, IsSome, [], List}
+use Rattle.std.specs.Prelude.{◌≡◌, ℕ, ◌≤◌, Bool, true, length, Option, Some, IsSome, IfSome, IsSomeAnd, [], List}
 use Rattle.std.specs.List.{flat_map}
 use Rattle.tc_units.specs.declared.units.Addr.{Addr}
 use Rattle.tc_units.specs.declared.units.ThreadNo.{ThreadNo}
@@ -34,20 +34,11 @@ pub record CpuOk (m : ℕ) (p : CpuPart) : Type 0 where
   pub sound : IsSoundSlab p.slab
   pub stopped : p.fenced ≡ true → IsSome p.stopper
 
--- a thread has stopped CPU i
-abbrev pub IsStopping : ℕ → Option Standing → Type 0
-IsStopping i None = ⊥
-IsStopping i (Some s) = s.cpu ≡ i
-
 -- what a thread has done to the CPU that it has stopped still stands
 pub record IsHeld (t : ThreadNo) (p : CpuPart) (s : Standing) : Type 0 where
   pub stopper : p.stopper ≡ Some t
   pub fenced : s.fenced ≡ true → p.fenced ≡ true
   pub empty : (j : ℕ) → s.empty j ≡ true → (p.fenced ≡ true) × ((row_at p.slab j).top ≡ 0)
-
-abbrev pub Holds : ℕ → ThreadNo → CpuPart → Option Standing → Type 0
-Holds i t p None = Unit {0}
-Holds i t p (Some s) = s.cpu ≡ i → IsHeld t p s
 
 -- CPU i and thread t: it runs only at its own CPU; where it is current its registers agree with the row, and behind a fence it is at rest; the stopper is the thread that has stopped it
 pub record SeatOk (i : ℕ) (t : ThreadNo) (p : CpuPart) (s : Seat) : Type 0 where
@@ -55,8 +46,8 @@ pub record SeatOk (i : ℕ) (t : ThreadNo) (p : CpuPart) (s : Seat) : Type 0 whe
   pub behind : p.running ≡ Some t → s.regs.epoch ≤ p.epoch
   pub agrees : IsCurrent t p s.regs → Agrees (is_pop s.regs.seq) (row_at p.slab s.regs.class.0) s.regs s.regs.pc
   pub rests : p.fenced ≡ true → IsCurrent t p s.regs → IsAtRest s.regs.pc
-  pub stops : p.stopper ≡ Some t → IsStopping i s.standing
-  pub stage : Holds i t p s.standing
+  pub stops : p.stopper ≡ Some t → IsSomeAnd s.standing (λ o. o.cpu ≡ i)
+  pub stage : IfSome s.standing (λ o. o.cpu ≡ i → IsHeld t p o)
 
 -- An act of thread t at CPU i keeps the CPU and the pair, and what it leaves fits all other threads there, and t all other CPUs.
 pub record SeatKeeps (m i : ℕ) (t : ThreadNo) (p : CpuPart) (s : Seat) (new : CpuPart) (after : Seat) : Type 0 where
@@ -72,6 +63,11 @@ with_regs s r = record s { regs = r }
 -- a seat of a thread that has stopped CPU i
 abbrev pub standing_at : Seat → ℕ → Bool → (ℕ → Bool) → Seat
 standing_at s i fenced empty = record s { standing = Some (record { cpu = i; fenced = fenced; empty = empty }) }
+
+-- registers at their begin: no sequence is under way, and nothing is loaded
+pub record IsAtBegin (r : Regs) : Type 0 where
+  pub pc : r.pc ≡ Begin
+  pub nothing : r.loaded.items ≡ []
 
 -- a thread that is the stopper of CPU i, and has fenced it
 pub record IsFencing (i : ℕ) (s : Seat) : Type 0 where

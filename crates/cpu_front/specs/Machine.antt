@@ -1,20 +1,12 @@
--- The allocator over the per-CPU caches as a machine: its states, its law for an order, and what a run tells.
+-- The allocator over the per-CPU caches as a machine: its law for an order, and what a run tells.
 use Rattle.std.specs.Prelude.{ℕ, List}
 use Rattle.tc_model.specs.declared.answers.Finished.{Finished}
 use Rattle.tc_model.specs.Input.{Input}
-use Rattle.tc_model.specs.Run.{World}
 use Rattle.alloc_rules.specs.Lawful.{IsLawfulOrder}
 use Rattle.cpu_rows.specs.CpuRows.{about_row}
 use Rattle.cpu_rows.specs.Law.{AreLawful, HoldsAfter}
-use Rattle.cpu_rows.specs.Machine.{Part, front_of, rules}
-use Rattle.cpu_rows.specs.PerCpu.{CpuLocal}
+use Rattle.cpu_rows.specs.Machine.{front_of, rules}
 use Rattle.tc_machine.specs.Finish as machine
-use Rattle.tc_machine.specs.Played as machine_state
-use Rattle.tc_machine.specs.Played.{Played}
-
--- the parts and locals of a state
-abbrev pub world : Played (Unit {0}) → World Part CpuLocal
-world = machine_state.world (λ options. rules)
 
 -- The law for an order: its picks move, and they are few; the rules are lawful; and what holds in every order holds behind
 -- each beginning of it.

@@ -2,10 +2,10 @@
 use Rattle.std.proofs.Common.{◌≡◌, ◌≢◌, ℕ, ◌+◌, ◌<◌, ◌≤◌, false, List, [], length, Option, Some, None, refl, ap, subst, arith, inl, ◌⊎◌, eqb}
 use Rattle.cpu_rows.proofs.Common.{cond_both, ThreadNo, ClassRow, MoveTo, Config, MOST_PICKS, CpuSlab, row_at, held, CpuPart, Regs, is_pop}
 use Rattle.cpu_rows.proofs.Common.{IsCurrent, left, dropped, CpuOk, SeatOk, SeatKeeps, IsHome, AreOfSame, objects_at, CpuSeat, CpuRow, CpuStep, Next}
-use Rattle.cpu_rows.proofs.Common.{HasNoLabel, About, Asks, about_giving, cpu_acts, leaving, moves_to, leaves, looks_on, gives}
+use Rattle.cpu_rows.proofs.Common.{HasNoLabel, About, Asks, about_giving, cpu_acts, leaving, looks_on, gives}
 use Rattle.cpu_rows.proofs.Common.{at_cpu_next, about_cpu, about_row, at_cpu, as_row, FitsCpu, thread_no, AreRows, most_slots, IsAtBegin, HasNone, IsGiving}
-use Rattle.cpu_rows.proofs.Common.{CpuShape, cpu_standing, giving_standing, IsMove, limits_of, Standing, Here, stand, at_next, regs_next, IsReady, IsAct}
-use Rattle.cpu_rows.proofs.Common.{IsNext, Cpu, left_with, cpu_front, seated, stopping_at, seat_at, IsSeated, RegsAt, Asking, Giving, IsAsked, HandAbout}
+use Rattle.cpu_rows.proofs.Common.{CpuShape, cpu_standing, IsMove, limits_of, Standing, Here, stand, at_next, regs_next, IsReady, IsAct}
+use Rattle.cpu_rows.proofs.Common.{IsNext, Cpu, cpu_front, stopping_at, seat_at, IsSeated, RegsAt, Asking, Giving, IsAsked, HandAbout}
 use Rattle.rseq_core.specs.Agrees.{Agrees}
 use Rattle.cpu_drain.specs.Seats as seats
 use Rattle.cpu_drain.proofs.Lawful as lawful
@@ -30,23 +30,22 @@ module _ (rows : List ClassRow) (c : Config) where
   hand_same g r a class hand x = grind arith
 
   -- an allocation looks on in its domain, or in the shard
-  pub looks : (v : CpuSeat) (row : CpuRow) (g r : Regs) (a : Asking) → about_row row ≡ Asks a → HasNone (seated v r) → IsAsked rows r a
+  pub looks : (v : CpuSeat) (row : CpuRow) (g r : Regs) (a : Asking) → about_row row ≡ Asks a → HasNone r → IsAsked rows r a
       → IsBehind v row g r None (looks_on v a)
   looks v row g r a is none asked = grind (arith, cond_both, some_domain)
 
   -- the hand is given away, to the cache of the domain or to the shard
   pub gives_to_shard : (v : CpuSeat) (row : CpuRow) (g r : Regs) (w : Giving CpuStep) → about_row row ≡ about_giving about_cpu w → IsAtBegin r
-      → length r.hand.items ≤ most_slots → IsGiving (limits_of rows c) r.hand.items (as_row w) → IsBehind v row g r (giving_standing rows (as_row w))
-      (next.Give (as_row w))
+      → length r.hand.items ≤ most_slots → IsGiving (limits_of rows c) r.hand.items w → IsBehind v row g r (stopping_at rows r (at_next (next.Give (as_row w)))) (next.Give (as_row w))
   gives_to_shard v row g r w is begin few has = grind arith
 
   pub gives_away : (v : CpuSeat) (row : CpuRow) (g r : Regs) (w : Giving CpuStep) → about_row row ≡ about_giving about_cpu w → IsAtBegin r
-      → length r.hand.items ≤ most_slots → IsGiving (limits_of rows c) r.hand.items (as_row w) → IsBehind v row g r (giving_standing rows (as_row w)) (gives v w)
+      → length r.hand.items ≤ most_slots → IsGiving (limits_of rows c) r.hand.items w → IsBehind v row g r (stopping_at rows r (at_next (next.Give (as_row w)))) (gives v w)
   gives_away v row g r w is begin few has = grind (arith, cond_both, gives_to_shard, some_domain)
 
   -- the call goes on with a row at a CPU
   pub goes_on : (v : CpuSeat) (row to : CpuStep) (g r : Regs) → about_cpu to ≡ about_cpu row → HandAbout rows r (about_cpu row)
-      → CpuShape (limits_of rows c) (seated v r) to → IsBehind v (front.Cpu row) g r (cpu_standing rows r.class.0 to) (at_cpu_next to)
+      → CpuShape (limits_of rows c) v r to → IsBehind v (front.Cpu row) g r (cpu_standing rows r.class.0 to) (at_cpu_next to)
   goes_on v row to g r is hand shape = record { next = (is, hand); regs = shape; stands = refl; same = refl }
 
 -- registers that differ in their class and their sequence alone
@@ -96,7 +95,7 @@ module _ (turn : Turn) where
     pub keeps : Keeps row x.part (seat_at rows (after x))
     pub sits : IsSeated rows c t (after x)
     pub epoch : x.part.epoch ≤ p.epoch + 1
-    pub act : IsAct (cpu_front rows c) about_row (Cpu p) g (front.Cpu row) (left_with Cpu x)
+    pub act : IsAct (cpu_front rows c) about_row (Cpu p) g (front.Cpu row) (leaving (Cpu x.part) x.seat x.regs x.next)
 
   -- and fits
   pub record Does (row : CpuStep) : Type 0 where
@@ -163,17 +162,20 @@ module _ (turn : Turn) where
   left_part : (u : ThreadNo) → ((left p u).slab ≡ p.slab) × ((left p u).epoch ≤ p.epoch + 1)
   left_part u = grind (arith, cond_both)
 
+  abbrev moved_to : MoveTo → CpuSeat
+  moved_to move = record v { cpu = move.cpu; moved = None }
+
   pub leave_acts : (row : CpuStep) (move : MoveTo) (n : Next) (o : Option seats.Standing) → IsThere row → v.cpu.0 ≡ (at_cpu v.cpu row).0
-      → v.moved ≡ Some move → (seat row).standing ≡ o → IsBehind rows c (moves_to v move) (front.Cpu row) g (dropped g) o n → Acts row (leaves p v g move n)
+      → v.moved ≡ Some move → (seat row).standing ≡ o → IsBehind rows c (moved_to move) (front.Cpu row) g (dropped g) o n
+      → Acts row (leaving (left p g.thread) (moved_to move) (dropped g) n)
   leave_acts row move n o there here is stands b =
       let u : ThreadNo = g.thread in
-      let left_seat : seats.Seat = record (seat row) { regs = dropped g; cpu = move.cpu.0 } in
       let keeps = lawful.leaves (length rows) (at_cpu v.cpu row).0 move.cpu.0 (thread_no t) p (seat row) (home_of row there here) in
       grind (
         arith,
         moves_none (left p u) (left_part u).1 (slab_same (left p u) (left_part u).0),
         left_part u,
         slab_same (left p u) (left_part u).0,
-        builds row (left p u) (moves_to v move) (dropped g) (dropped g) n (seat row).standing o there,
-        as_left row (moves_to v move) (dropped g) o n b,
+        builds row (left p u) (moved_to move) (dropped g) (dropped g) n (seat row).standing o there,
+        as_left row (moved_to move) (dropped g) o n b,
       )

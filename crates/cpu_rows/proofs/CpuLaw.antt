@@ -2,7 +2,7 @@
 use Rattle.std.proofs.Common.{◌≡◌, ℕ, ◌+◌, ◌*◌, ◌≤◌, List, length, Some, sym, ◌∙◌, subst, arith, slice_get, slice_set}
 use Rattle.cpu_rows.proofs.Common.{ClassRow, Config, MOST_PICKS, Input, set_there, CpuPart, Regs, Transfer, CpuSeat, CpuRow, CpuStep, DomainStep, cpu_acts}
 use Rattle.cpu_rows.proofs.Common.{domain_acts, at_cpu, domain_of, about_row, FitsDomain, AreRows, DomainShape, Here, Standing, stand, regs_next, at_next}
-use Rattle.cpu_rows.proofs.Common.{IsReady, IsAct, IsLawful, CpuFrontPart, Cpu, Domain, seated, front_acts, cpu_front, cpu_planned, cpu_fits, CpuHolds}
+use Rattle.cpu_rows.proofs.Common.{IsReady, IsAct, IsLawful, CpuFrontPart, Cpu, Domain, front_acts, cpu_front, cpu_planned, cpu_fits, CpuHolds}
 use Rattle.cpu_rows.proofs.Common.{IsValidInput, limits_of, AreCpuLimits, CpuIsLawful}
 use Rattle.alloc_rules.specs.Valid.{AreLimits}
 use Rattle.cpu_rows.specs.declared.row.CpuRow.TheVariants as front
@@ -75,7 +75,7 @@ module _ (rows : List ClassRow) (c : Config) where
         let i : ℕ = c.cpus + domain_of v * length rows + g.class.0 in
         let was : Standing CpuSeat CpuRow = stand v g count (Here (front.Domain row)) in
         let s = h.threads t was own in
-        let shape : DomainShape (limits_of rows c) (seated v g) row = s.regs in
+        let shape : DomainShape (limits_of rows c) v g row = s.regs in
         let found = h.placed.cache (domain_of v) g.class.0 (omega (arith, domain_low (limits_of rows c) v g row shape, s.domains)) ready.class in
         let q : Transfer = found.0 in
         let fits : FitsDomain rows g row = domain_fits rows c t q v g row shape ready.room ready.class are in

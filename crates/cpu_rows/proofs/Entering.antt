@@ -1,11 +1,14 @@
 -- What an act of a local leaves of its CPU's open mark and of the thread's own sequence.
-use Rattle.std.proofs.Common.{◌≡◌, ℕ, ◌+◌, ◌<◌, ◌≤◌, ◌⊎◌, Bool, true, false, List, Option, Some, None, refl, sym, ap, subst}
-use Rattle.std.proofs.Common.{inr, arith, not, ◌||◌, is_some, length}
-use Rattle.cpu_rows.proofs.Common.{ClassRow, MoveTo, CpuPart, LOADED_ROOM, Pc, Begin, Header, Test, Copy, Commit, Seq, Reply, Cell, wanted, copy_or_commit}
-use Rattle.cpu_rows.proofs.Common.{runs, open_after, instruction, entered, arrival, instructed_by, CpuStep, Pop, Grow, Stock, Push, PopBatch, Local, Step, goes}
-use Rattle.cpu_rows.proofs.Common.{no_class, class_row, instructs, sequence_by, runs_open, yields_to_enter, with_next, cpu_row, yields_for, AreRows, Limits}
-use Rattle.cpu_rows.proofs.Common.{at_step, RegsAt, about_cpu, Kind, enters, closes, neither, instructed_kind, sequence_kind, step_kind}
-use Rattle.cpu_drain.proofs.Steps.{runs_is}
+use Rattle.std.proofs.Common.{◌≡◌, ℕ, ◌+◌, ◌<◌, ◌≤◌, ◌⊎◌, Bool, true, false, List, Option, Some, None, refl, sym, subst}
+use Rattle.std.proofs.Common.{inr, arith, not, ◌||◌, ◌&&◌, cond, ltb, is_some, length}
+use Rattle.cpu_rows.proofs.Common.{ClassRow, MoveTo, CpuPart, LOADED_ROOM, Pc, Begin, Header, Test, Copy, Commit, Reply, wanted, copy_or_commit}
+use Rattle.cpu_rows.proofs.Common.{cond_both, IsCurrent, instruction, runs, open_after, instructed, cpu_after, by_arrival, Acted, Instructed, Left, regs_after, grew_to, growth_kind, leaving, leaves_or, replied, at_cpu_next, CpuStep, Pop, Grow, Stock, Push, PopBatch, Local, Step, goes}
+use Rattle.cpu_rows.proofs.Common.{no_class, row_of, yields_to_enter, with_next, cpu_row, yields_for, AreRows, Limits}
+use Rattle.cpu_rows.proofs.Common.{at_step, RegsAt, about_cpu, Kind, enters, closes, neither, instructed_kind, step_kind}
+use Rattle.std.specs.Option.{option_map_or}
+use Rattle.rseq_core.specs.Acts.{with_cell}
+use Rattle.rseq_core.specs.declared.answers.Instructed.TheVariants.{Done, Ran}
+use Rattle.rseq_core.specs.declared.answers.Arrival.TheVariants as arrive
 use Rattle.call_steps.specs.declared.step.Step.TheVariants as does
 use Rattle.cpu_rows.specs.declared.row.CpuRow.TheVariants as front
 
@@ -36,11 +39,15 @@ HasToEnter (does.Front (front.Cpu (Push f))) = Unit {0}
 HasToEnter (does.Front (front.Cpu (PopBatch f))) = Unit {0}
 HasToEnter other = ⊥
 
+-- what was begun there goes on
+abbrev pub runs_open : CpuPart → Bool
+runs_open p = is_some p.running && p.is_open && ltb p.ran 256
+
 -- A polite act In: no sequence that was begun there goes on.
 pub record Enters (p : CpuPart) (l : Local) (x : CpuPart × Local) : Type 0 where
   pub has : HasToEnter l.step
   pub closed : runs_open p ≡ false
-  pub cpu : x.0 ≡ entered p l.regs.thread
+  pub cpu : x.0 ≡ cpu_after arrive.In p l.regs
   pub home : x.1.seat.cpu ≡ l.seat.cpu
   pub step : x.1.step ≡ l.step
   pub begin : x.1.regs.pc ≡ Begin
@@ -80,24 +87,32 @@ open_stays pc o was none is = grind arith
 polite_closed : (running marked : Bool) → (running || not marked) ≡ true → running ≡ false → marked ≡ false
 polite_closed running marked polite other = grind arith
 
-module _ (rows : List ClassRow) (p : CpuPart) (l : Local) (has : HasToEnter l.step) (polite : yields_to_enter p l.regs.thread ≡ true) where
-  module _ (row : CpuStep) (own : l.step ≡ does.Front (front.Cpu row)) (few : wanted l.regs.seq l.regs.hand.items ≤ LOADED_ROOM) where
-    abbrev c : Cell
-    c = instruction p l.regs
+module _ (rows : List ClassRow) (p : CpuPart) (l : Local) (row : CpuStep) (own : l.step ≡ does.Front (front.Cpu row))
+    (has : HasToEnter (does.Front (front.Cpu row))) where
+  -- how such an act acts, and what is left behind one of a sequence
+  abbrev ActsAs : Kind → Left CpuPart → Type 0
+  ActsAs kind x = DoesAs kind p l (with_next rows l (about_cpu row) x)
 
-    instructs_as : (a b : Bool) → runs p.running l.regs.thread ≡ a
-        → let x = instructed_by (arrival a b) p l.regs in DoesAs (instructed_kind x.answer) p l (with_next rows l (about_cpu row) (instructs rows l.seat row x))
-    instructs_as a b is = grind (arith, polite_closed, copies_few, open_stays, runs_is)
+  abbrev behind : Acted Instructed → Left CpuPart
+  behind x = let n = replied rows l.seat x.regs x.answer row in leaving x.cpu l.seat n.0 n.1
 
--- with a move that is due the thread leaves
-sequence_as : (rows : List ClassRow) (p : CpuPart) (l : Local) (row : CpuStep) → l.step ≡ does.Front (front.Cpu row) → HasToEnter l.step
-    → wanted l.regs.seq l.regs.hand.items ≤ LOADED_ROOM → (o : Option MoveTo) → (is_some o || yields_to_enter p l.regs.thread) ≡ true
-    → DoesAs (sequence_kind p l o) p l (with_next rows l (about_cpu row) (sequence_by rows p l.seat l.regs row o))
-sequence_as rows p l row own has few o polite = grind (arith, instructs_as)
+  enters_as : yields_to_enter p l.regs.thread ≡ true → runs p.running l.regs.thread ≡ false
+      → ActsAs enters (leaving (cpu_after arrive.In p l.regs) l.seat (regs_after arrive.In p l.regs) (at_cpu_next row))
+  enters_as polite away =
+      record { has = subst HasToEnter (sym own) has; closed = polite_closed (runs p.running l.regs.thread) (runs_open p) polite away; cpu = refl; home = refl; step = sym own; begin = refl }
 
--- what a sequence of a shaped local is for
-wants : (l : Local) (s : Seq) → l.regs.seq ≡ s → wanted l.regs.seq l.regs.hand.items ≡ wanted s l.regs.hand.items
-wants l s is = ap (λ (x : Seq). wanted x l.regs.hand.items) is
+  -- an instruction, by what its sequence replies
+  executes_as : wanted l.regs.seq l.regs.hand.items ≤ LOADED_ROOM → IsCurrent l.regs.thread p l.regs → (o : Option Reply) → o ≡ (instruction p l.regs).reply
+      → (let c = instruction p l.regs in let a = option_map_or Done o Ran in ActsAs (instructed_kind a) (behind (record { cpu = with_cell p l.regs c; regs = c.regs; answer = a })))
+  executes_as few now (Some reply) is = tt
+  executes_as few now None is = grind (arith, copies_few, open_stays, cond_both)
+
+  -- with a move that is due the thread leaves
+  sequence_as : wanted l.regs.seq l.regs.hand.items ≤ LOADED_ROOM → (o : Option MoveTo) → (is_some o || yields_to_enter p l.regs.thread) ≡ true
+      → (let x = instructed p l.regs in ActsAs (cond (is_some o) closes (instructed_kind x.answer)) (leaves_or o p l.seat l.regs (at_cpu_next row) (behind x)))
+  sequence_as few None polite =
+      by_arrival (λ x. ActsAs (instructed_kind x.answer) (behind x)) _ _ _ p l.regs (enters_as polite) tt (λ now. executes_as few now _ refl)
+  sequence_as few (Some move) polite = tt
 
 -- what an act leaves of a CPU and of its thread, by the step
 abbrev pub cpu_pair : List ClassRow → CpuPart → Local → Step → CpuPart × Local
@@ -112,14 +127,18 @@ module _ (m : Limits) (p : CpuPart) (l : Local) (table : AreRows m.rows) (class 
   away_by : (s : Step) → l.step ≡ s → (HasToEnter s → ⊥) → HasToEnter l.step → ⊥
   away_by s is none has = none (subst HasToEnter is has)
 
-  has_by : (s : Step) → l.step ≡ s → HasToEnter s → HasToEnter l.step
-  has_by s is has = subst HasToEnter (sym is) has
-
-  few_batch : (class_row m.rows l).batch ≤ LOADED_ROOM
+  few_batch : (row_of m.rows l.regs.class).batch ≤ LOADED_ROOM
   few_batch = (table.each l.regs.class.0 no_class class).few
 
   step_as : (s : Step) → l.step ≡ s → RegsAt m l.seat l.regs (at_step s) → yields_for p l s ≡ true → DoesAs (step_kind p l s) p l (cpu_pair m.rows p l s)
-  step_as s is shape polite = grind (arith, away_by, few_batch, polite_closed, has_by, sequence_as, still, wants)
+  step_as (does.Front (front.Cpu (Grow a))) is shape polite =
+      by_arrival (λ x. ActsAs m.rows p l (Grow a) is tt (growth_kind x.answer) (leaving x.cpu l.seat x.regs (grew_to l.seat a x.answer))) _ _ _ p l.regs
+      (enters_as m.rows p l (Grow a) is tt polite) tt (λ now. tt)
+  step_as (does.Front (front.Cpu (Pop a))) is shape polite = sequence_as m.rows p l (Pop a) is tt (grind arith) _ polite
+  step_as (does.Front (front.Cpu (Stock s))) is shape polite = sequence_as m.rows p l (Stock s) is tt (grind arith) _ polite
+  step_as (does.Front (front.Cpu (Push f))) is shape polite = sequence_as m.rows p l (Push f) is tt (grind arith) _ polite
+  step_as (does.Front (front.Cpu (PopBatch f))) is shape polite = sequence_as m.rows p l (PopBatch f) is tt (grind (arith, few_batch)) _ polite
+  step_as s is shape polite = grind (arith, away_by, still)
 
   -- a polite act of a shaped local at a CPU
   pub act_as : yields_for p l l.step ≡ true → DoesAs (step_kind p l l.step) p l (cpu_pair m.rows p l l.step)

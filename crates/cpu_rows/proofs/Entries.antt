@@ -3,9 +3,8 @@ use Rattle.std.proofs.Common.{◌≡◌, ℕ, ◌<◌, ◌≤◌, true, List, []
 use Rattle.cpu_rows.proofs.Common.{Contents, Addr, Class, ClassRow, Call, Drain, Resize, MoveTo, Planned, Config, Seq, Begin, Regs, LOADED_ROOM, CpuSeat}
 use Rattle.cpu_rows.proofs.Common.{Asking, Serving, Freeing, CpuRow, CpuStep, Other, cpu_calls, to_sequence, with_move, stop_row, to_stop, leave_row, about_row}
 use Rattle.cpu_rows.proofs.Common.{AreRows, IsAtBegin, CpuShape, IsCallThere, limits_of, At, Here, Later, Away, Standing, stand, at_row, IsAsked, with_hand}
-use Rattle.cpu_rows.proofs.Common.{IsOwn, AreEntries, IsEntry, CpuFrontPart, seated, cpu_planned, seat_at, CpuHolds}
+use Rattle.cpu_rows.proofs.Common.{IsOwn, AreEntries, IsEntry, CpuFrontPart, cpu_planned, seat_at, CpuHolds}
 use Rattle.rseq_core.specs.declared.sequence.Seq.TheVariants as seq
-use Rattle.cpu_rows.specs.declared.row.Stopping.TheVariants as stopping
 use Rattle.cpu_rows.specs.declared.row.CpuRow.TheVariants as front
 use Rattle.cpu_rows.specs.declared.row.CpuStep.TheVariants as cpu
 use Rattle.cpu_rows.proofs.Threads.{KeepsRegs, changes, comes}
@@ -28,16 +27,16 @@ module _ (rows : List ClassRow) (c : Config) where
 
     pub waits : (more : ℕ) (j : Class) (row : CpuRow) (hand : Contents Addr) → count ≤ more → StandsAt g count (Later j row)
         → StandsAt (with_hand g g.class hand) more (Later j row)
-    waits more j row hand le h = comes rows c n t ps us v g (with_hand g g.class hand) count more (Later j row) (Later j row) le (same g.class hand)
+    waits more j (front.Cpu row) hand le h = comes rows c n t ps us v g _ count more (Later j (front.Cpu row)) _ le (same g.class hand)
         (λ x. record { begin = x.0; regs = λ new. (new, x.1); stands = refl }) h
+    waits more j (front.Domain row) hand le h = comes rows c n t ps us v g _ count more (Later j (front.Domain row)) _ le (same g.class hand) (λ x. absurd x) h
 
     pub back : (more : ℕ) (k : Class) (row : CpuRow) (hand : Contents Addr) → count ≤ more → hand.items ≡ [] → StandsAt g count (Later k row)
         → StandsAt (with_hand g k hand) more (Here row)
     back more k (front.Cpu row) hand le none h =
         comes rows c n t ps us v g (with_hand g k hand) count more (Later k (front.Cpu row)) (Here (front.Cpu row)) le (same k hand) (λ x. record
-        { begin = x.0; regs = λ new. x.1.shape (seated v (with_hand g k hand)) (record { begin = new; hand = none; freed = refl }) refl; stands = refl }) h
-    back more k (front.Domain row) hand le none h = comes rows c n t ps us v g (with_hand g k hand) count more (Later k (front.Domain row))
-        (Here (front.Domain row)) le (same k hand) (λ x. absurd x.1) h
+        { begin = x.0; regs = λ new. x.1.shape v (with_hand g k hand) (record { begin = new; hand = none }) refl; stands = refl }) h
+    back more k (front.Domain row) hand le none h = comes rows c n t ps us v g _ count more (Later k (front.Domain row)) _ le (same k hand) (λ x. absurd x) h
 
     -- a call begins, with its move, and has executed nothing
     pub restarts : StandsAt g count Away → StandsAt (record g { ran = 0 }) count Away
@@ -48,7 +47,7 @@ module _ (rows : List ClassRow) (c : Config) where
     begins o planned h = grind (arith, changes rows c n n t ps us (stand v g count Away) (stand (with_move v o) g count Away))
 
     -- the rows with which calls begin and go on
-    enters : (new : Regs) (row : CpuStep) → KeepsRegs rows c g new → (IsAtBegin new → CpuShape (limits_of rows c) (seated v new) row)
+    enters : (new : Regs) (row : CpuStep) → KeepsRegs rows c g new → (IsAtBegin new → CpuShape (limits_of rows c) v new row)
         → (seat_at rows (stand v new count (Here (front.Cpu row)))).standing ≡ None → StandsAt g count Away → StandsAt new count (Here (front.Cpu row))
     enters new row keeps shape none h = comes rows c n t ps us v g new count count Away (Here (front.Cpu row)) (omega arith) keeps
         (λ b. record { begin = b; regs = shape; stands = none }) h
@@ -58,32 +57,27 @@ module _ (rows : List ClassRow) (c : Config) where
 
     pub firsts : (a : Asking) → IsAsked rows g a → g.hand.items ≡ [] → StandsAt g count Away
         → StandsAt (record (to_sequence seq.Pop g) { ran = 0 }) count (Here (front.Cpu (cpu.Pop a)))
-    firsts a asked none h = enters (record (to_sequence seq.Pop g) { ran = 0 }) (cpu.Pop a) (set g.class seq.Pop 0 (omega arith))
-        (λ b. (record { seq = refl; freed = refl }, none, asked)) refl h
+    firsts a asked none h = enters _ (cpu.Pop a) (set g.class seq.Pop 0 (omega arith)) (λ b. (refl, none, asked)) refl h
 
     pub rests : (s : Serving) → 0 < length g.hand.items → length g.hand.items ≤ LOADED_ROOM → StandsAt g count Away
         → StandsAt (to_sequence seq.PushBatch g) count (Here (front.Cpu (cpu.Stock s)))
-    rests s some few h = enters (to_sequence seq.PushBatch g) (cpu.Stock s) (set g.class seq.PushBatch g.ran (omega arith))
-        (λ b. (record { seq = refl; freed = refl }, some, few)) refl h
+    rests s some few h = enters _ (cpu.Stock s) (set g.class seq.PushBatch g.ran (omega arith)) (λ b. (refl, some, few)) refl h
 
     pub frees : (f : Freeing) → g.hand.items ≡ f.addr ∷ [] → StandsAt g count Away → StandsAt (to_sequence seq.Push g) count (Here (front.Cpu (cpu.Push f)))
-    frees f one h = enters (to_sequence seq.Push g) (cpu.Push f) (set g.class seq.Push g.ran (omega arith)) (λ b. (record { seq = refl; freed = refl }, one))
-        refl h
+    frees f one h = enters _ (cpu.Push f) (set g.class seq.Push g.ran (omega arith)) (λ b. (refl, one)) refl h
 
     pub others_begin : (call : Call) → IsCallThere (limits_of rows c) call → IsOwn call → g.hand.items ≡ [] → StandsAt g count Away
         → StandsAt (record (to_stop call g) { ran = 0 }) count (at_row (stop_row call))
     others_begin (Drain i) there own none h =
-        enters (record (to_stop (Drain i) g) { ran = 0 }) (cpu.Stop (stopping.Drain (record { cpu = i; taken = 0 })))
-        (set (record { 0 = 0 }) seq.Pop 0 (omega arith)) (λ b. (record { begin = b; hand = none; freed = refl }, (there, omega arith), refl)) refl h
+        enters _ _ (set (record { 0 = 0 }) seq.Pop 0 (omega arith)) (λ b. (record { begin = b; hand = none }, (there, omega arith), refl)) refl h
     others_begin (Resize i class cap) there own none h =
-        enters (record (to_stop (Resize i class cap) g) { ran = 0 }) (cpu.Stop (stopping.Resize (record { cpu = i; class = class; cap = cap })))
-        (set class seq.Pop 0 (omega arith)) (λ b. (record { begin = b; hand = none; freed = refl }, (there.0, refl), tt)) refl h
+        enters _ _ (set class seq.Pop 0 (omega arith)) (λ b. (record { begin = b; hand = none }, (there.0, refl), tt)) refl h
     others_begin call there own none h = absurd own
 
     lasts_by : (o : Option MoveTo) → v.moved ≡ o → g.hand.items ≡ [] → StandsAt g count Away → StandsAt g count (at_row (leave_row o))
     lasts_by None is none h = h
     lasts_by (Some move) is none h = enters g cpu.Leave (record { thread = refl; loaded = refl; ran = omega arith; epoch = refl; pc = λ pc. pc })
-        (λ b. (record { begin = b; hand = none; freed = refl }, ap (λ (o : Option MoveTo). is_some o) is)) refl h
+        (λ b. (record { begin = b; hand = none }, ap (λ (o : Option MoveTo). is_some o) is)) refl h
 
     pub lasts : g.hand.items ≡ [] → StandsAt g count Away → StandsAt g count (at_row (leave_row v.moved))
     lasts none h = lasts_by v.moved refl none h

@@ -1,8 +1,8 @@
 -- What an act of the per-CPU caches hands on may come next in its call.
-use Rattle.std.proofs.Common.{◌≡◌, true, eqb, List, Option, Some, sym, ◌∙◌, arith}
+use Rattle.std.proofs.Common.{◌≡◌, true, eqb, List, Option, Some, refl, sym, ◌∙◌, arith}
 use Rattle.cpu_rows.proofs.Common.{cond_both, Class, ThreadNo, ClassRow, Drain, MoveTo, Busy, CapFault, CpuPart, Regs, Reply, Instructed, IsOther, cpu_refuses}
 use Rattle.cpu_rows.proofs.Common.{CpuSeat, Asking, Draining, Resizing, Stopping, Giving, Next, CpuRow, CpuStep, Asks, Other, about_giving, Left, looks_on}
-use Rattle.cpu_rows.proofs.Common.{gives, after_pop, instructed_to, sequence_by, stops, drains_on, cap_answer, started, left_for, cpu_acts, is_refusal}
+use Rattle.cpu_rows.proofs.Common.{gives, after_pop, replied, leaves_or, sequence, due, at_cpu_next, drains_on, cap_answer, cpu_acts, is_refusal}
 use Rattle.cpu_rows.proofs.Common.{HasObject, ComesWith, FitsCpu, about_cpu, about_row, call_of, as_row}
 use Rattle.rseq_core.specs.declared.sequence.Reply.TheVariants as reply
 use Rattle.rseq_core.specs.declared.answers.Instructed.TheVariants as instructed
@@ -39,18 +39,11 @@ module _ (Serves : Regs → Type 0) (rows : List ClassRow) (v : CpuSeat) where
   pop_may r a o some = grind (arith, looks_may)
 
   instructed_may : (r : Regs) (row : CpuStep) (x : Instructed) → ((a : Asking) → row ≡ cpu.Pop a → x ≡ instructed.Done reply.Popped → Serves r)
-      → May (front.Cpu row) (instructed_to rows v r row x)
+      → May (front.Cpu row) (replied rows v r x row)
   instructed_may r row x some = grind (arith, gives_may, pop_may)
-
-  -- a thread that stops a CPU
-  stop_may : (p : CpuPart) (r : Regs) (s : Stopping) (o : Option ThreadNo) → May (front.Cpu (cpu.Stop s)) (r, (stops p r.thread s o).1)
-  stop_may p r s o = grind (arith, busy_other)
 
   cap_may : (x : Resizing) (o : Option CapFault) → is_refusal (cap_answer o) ≡ true → cpu_refuses (front.Cpu (cpu.SetCap x)) (cap_answer o) ≡ true
   cap_may x o refusal = grind arith
-
-  started_may : (r : Regs) (s : Stopping) → May (front.Cpu (cpu.Start s)) (r, started v r.hand.items s)
-  started_may r s = grind (arith, gives_may)
 
   -- by the move, with which the number of domains stays
   abbrev pub MayCome : {P : Type 0} → CpuRow → Left P → Type 0
@@ -60,20 +53,23 @@ module _ (Serves : Regs → Type 0) (rows : List ClassRow) (v : CpuSeat) where
   abbrev PopServes : CpuPart → Regs → CpuStep → Type 0
   PopServes p r row = (a : Asking) → row ≡ cpu.Pop a → (rseq.instructed p r).answer ≡ instructed.Done reply.Popped → Serves (rseq.instructed p r).regs
 
-  sequence_comes : (p : CpuPart) (r : Regs) (row : CpuStep) (o : Option MoveTo) → PopServes p r row → MayCome (front.Cpu row) (sequence_by rows p v r row o)
-  sequence_comes p r row o some = grind (arith, instructed_may)
+  leaves_come : (row : CpuRow) (o : Option MoveTo) (p : CpuPart) (r : Regs) (n : Next) (act : Left CpuPart) → May row (rseq.dropped r, n) → MayCome row act
+      → MayCome row (leaves_or o p v r n act)
+  leaves_come row o p r n act leaves stays = grind arith
 
-  leave_comes : (p : CpuPart) (r : Regs) (o : Option MoveTo) → MayCome (front.Cpu cpu.Leave) (left_for p v r o)
-  leave_comes p r o = grind arith
+  sequence_comes : (p : CpuPart) (r : Regs) (row : CpuStep) → PopServes p r row → MayCome (front.Cpu row) (sequence rows p v r row)
+  sequence_comes p r row some =
+      let x = rseq.instructed p r in
+      leaves_come (front.Cpu row) (due v.moved r.ran) p r (at_cpu_next row) _ refl (instructed_may x.regs row x.answer some, refl)
 
   pub cpu_comes : (p : CpuPart) (r : Regs) (row : CpuStep) → PopServes p r row → MayCome (front.Cpu row) (cpu_acts rows p v r row)
   cpu_comes p r (cpu.Grow a) some = grind (arith, looks_may)
-  cpu_comes p r (cpu.Stop s) some = grind (arith, stop_may)
+  cpu_comes p r (cpu.Stop s) some = grind (arith, busy_other)
   cpu_comes p r (cpu.Fence s) some = grind arith
   cpu_comes p r (cpu.Take s) some = grind (arith, gives_may, drains_about)
   cpu_comes p r (cpu.SetCap x) some = grind (arith, cap_may)
-  cpu_comes p r (cpu.Start s) some = grind (arith, started_may)
-  cpu_comes p r cpu.Leave some = leave_comes p r _
+  cpu_comes p r (cpu.Start s) some = grind (arith, gives_may)
+  cpu_comes p r cpu.Leave some = leaves_come (front.Cpu cpu.Leave) v.moved p r next.End _ refl (refl, refl)
   cpu_comes p r row some = grind (arith, sequence_comes)
 
 -- Where the act fits, an allocation is served with an object in hand.

@@ -3,21 +3,21 @@ use Rattle.std.proofs.Common.{◌≡◌, ℕ, ◌+◌, ◌*◌, ◌<◌, ◌≤�
 use Rattle.std.proofs.lemmas.Bool.Decides.{nat_tests}
 use Rattle.cpu_rows.proofs.Common.{mod-lt, cond_both, length-set, Class, ClassRow, Config, set_here, set_elsewhere, CpuPart, Regs, CpuOk, SeatOk, SeatKeeps}
 use Rattle.cpu_rows.proofs.Common.{Transfer, CpuSeat, Stopping, CpuRow, CpuStep, DomainStep, at_cpu, cpu_of, domain_of, thread_no, IsStop, CpuShape}
-use Rattle.cpu_rows.proofs.Common.{DomainShape, Limits, HasRoom, IsSlabOf, Standing, CpuFrontPart, Cpu, Domain, seated, seat_at, IsSeated, ArePlaced, CpuHolds}
+use Rattle.cpu_rows.proofs.Common.{DomainShape, Limits, HasRoom, IsSlabOf, Standing, CpuFrontPart, Cpu, Domain, seat_at, IsSeated, ArePlaced, CpuHolds}
 use Rattle.cpu_rows.proofs.Lists.{Here, IsSet, There, set_once}
 
 -- the CPU of a row is there
 stop_low : (m : Limits) (k : Class) (s : Stopping) → IsStop m k s → (cpu_of s).0 < m.cpus
 stop_low m k s is = grind arith
 
-pub cpu_low : (m : Limits) (v : CpuSeat) (g : Regs) (row : CpuStep) → v.cpu.0 < m.cpus → CpuShape m (seated v g) row → (at_cpu v.cpu row).0 < m.cpus
+pub cpu_low : (m : Limits) (v : CpuSeat) (g : Regs) (row : CpuStep) → v.cpu.0 < m.cpus → CpuShape m v g row → (at_cpu v.cpu row).0 < m.cpus
 cpu_low m v g row home shape = grind (arith, stop_low)
 
 -- and so is the domain
-has_domain : (m : Limits) (v : CpuSeat) (g : Regs) (row : DomainStep) → DomainShape m (seated v g) row → 0 < v.domains
+has_domain : (m : Limits) (v : CpuSeat) (g : Regs) (row : DomainStep) → DomainShape m v g row → 0 < v.domains
 has_domain m v g row shape = grind arith
 
-pub domain_low : (m : Limits) (v : CpuSeat) (g : Regs) (row : DomainStep) → DomainShape m (seated v g) row → domain_of v < v.domains
+pub domain_low : (m : Limits) (v : CpuSeat) (g : Regs) (row : DomainStep) → DomainShape m v g row → domain_of v < v.domains
 domain_low m v g row shape = grind (arith, cond_both, has_domain, mod-lt)
 
 -- a part takes the place of one of its kind

@@ -1,11 +1,11 @@
 -- Acts of threads with a sequence or a growth, by what the sequence replied.
-use Rattle.std.proofs.Common.{◌≡◌, refl, ℕ, ◌+◌, ◌<◌, ◌≤◌, Bool, true, false, [], ◌∷◌, List, length, Option, Some, None, ap, sym, ◌∙◌, subst, arith}
+use Rattle.std.proofs.Common.{◌≡◌, refl, ℕ, ◌+◌, ◌<◌, ◌≤◌, true, false, [], ◌∷◌, List, length, Option, Some, None, ap, sym, ◌∙◌, subst, arith}
 use Rattle.std.proofs.lemmas.List.{nil_from_length}
 use Rattle.cpu_rows.proofs.Common.{cond_both, length-append, length-drop, Addr, Class, MoveTo, SlabRow, row_at, row_sound, CpuPart, Regs, LOADED_ROOM, Seq}
 use Rattle.cpu_rows.proofs.Common.{Reply, Instructed, Grew, is_pop, wanted, AnswerMoves, ReplyMoves, AreOfSame, Instructs, Grows, instruct_does, grow_does}
 use Rattle.cpu_rows.proofs.Common.{CpuSeat, Asking, Serving, Freeing, CpuStep, Next, no_class, row_of, thread_no, leaving, gives, at_cpu_next, due, after_stock}
-use Rattle.cpu_rows.proofs.Common.{replied, instructed_to, sequence_by, sequence, grew_to, about_cpu, at_cpu, FitsSequence, most_slots, BeginsWith, IsAtBegin}
-use Rattle.cpu_rows.proofs.Common.{HasNone, CpuShape, cpu_standing, IsAsked, seated, limits_of}
+use Rattle.cpu_rows.proofs.Common.{replied, leaves_or, sequence, grew_to, about_cpu, at_cpu, FitsSequence, most_slots, BeginsWith, IsAtBegin}
+use Rattle.cpu_rows.proofs.Common.{HasNone, CpuShape, cpu_standing, IsAsked, limits_of}
 use Rattle.cpu_drain.specs.Laws.{HasRoom}
 use Rattle.rseq_core.proofs.Able.{able_from_agrees}
 use Rattle.rseq_core.specs.declared.sequence.Seq.TheVariants as seq
@@ -26,14 +26,11 @@ due_is : (o : Option MoveTo) (ran : ℕ) (move : MoveTo) → due o ran ≡ Some 
 due_is o ran move is = grind (arith, cond_both)
 
 -- which way a sequence goes
-way_apart : (s x : Seq) (b : Bool) → s ≡ x → is_pop x ≡ b → (c : Bool) → is_pop s ≡ c → b ≡ c
-way_apart s x b is way c has = sym way ∙ (sym (ap is_pop is) ∙ has)
-
 no_pop : (s x : Seq) → s ≡ x → is_pop x ≡ false → is_pop s ≡ true → ⊥
-no_pop s x is way pops = let e : false ≡ true = way_apart s x false is way true pops in absurd (cc)
+no_pop s x is way pops = let e : false ≡ true = (cc) in absurd (cc)
 
 no_push : (s x : Seq) → s ≡ x → is_pop x ≡ true → is_pop s ≡ false → ⊥
-no_push s x is way pushes = let e : true ≡ false = way_apart s x true is way false pushes in absurd (cc)
+no_push s x is way pushes = let e : false ≡ true = (cc) in absurd (cc)
 
 wants : (g : Regs) (s : Seq) → g.seq ≡ s → wanted g.seq g.hand.items ≡ wanted s g.hand.items
 wants g s is = ap (λ (x : Seq). wanted x g.hand.items) is
@@ -52,7 +49,7 @@ module _ (turn : Turn) where
   There row = IsThere turn row
 
   abbrev Shape : CpuSeat → Regs → CpuStep → Type 0
-  Shape w r row = CpuShape (limits_of rows c) (seated w r) row
+  Shape w r row = CpuShape (limits_of rows c) w r row
 
   abbrev Behind : CpuStep → Regs → Next → Type 0
   Behind row r n = IsBehind rows c v (front.Cpu row) g r None n
@@ -62,7 +59,7 @@ module _ (turn : Turn) where
   Replied row r new n = GoesOn turn row v r new None n × IsAtBegin new
 
   abbrev Replies : CpuStep → Type 0
-  Replies row = (old new : SlabRow) (r : Regs) (o : Reply) → ReplyMoves o old new g r → IsAtBegin r → AreOfSame g r → let z = replied rows v r row o in
+  Replies row = (old new : SlabRow) (r : Regs) (o : Reply) → ReplyMoves o old new g r → IsAtBegin r → AreOfSame g r → let z = replied rows v r (answer.Done o) row in
       Replied row r z.0 z.1
 
   -- with the registers as they were left
@@ -88,10 +85,11 @@ module _ (turn : Turn) where
 
   answers : (row : CpuStep) (new : CpuPart) (r : Regs) (a : Instructed) → There row → IsRow row → AreOfSame g r
       → Instructs p g (record { cpu = new; regs = r; answer = a }) → Keeps turn row new (seats.with_regs (seat turn row) r)
-      → (let n = instructed_to rows v r row a in Acts turn row (leaving new v n.0 n.1))
+      → (let n = replied rows v r a row in Acts turn row (leaving new v n.0 n.1))
   answers row new r a there x same y keeps = grind (arith, stays_on, moved_of)
 
-  acts_by : (row : CpuStep) → There row → IsRow row → (o : Option MoveTo) → due v.moved g.ran ≡ o → Acts turn row (sequence_by rows p v g row o)
+  acts_by : (row : CpuStep) → There row → IsRow row → (o : Option MoveTo) → due v.moved g.ran ≡ o
+      → (let z = rseq.instructed p g in let n = replied rows v z.regs z.answer row in Acts turn row (leaves_or o p v g (at_cpu_next row) (leaving z.cpu v n.0 n.1)))
   acts_by row there x (Some move) is = grind (arith, due_is, goes_on, hand_same, leave_acts)
   acts_by row there x None is =
       let z = rseq.instructed p g in
@@ -109,8 +107,8 @@ module _ (turn : Turn) where
   asked_still : (r : Regs) (a : Asking) → IsAsked rows g a → r.class ≡ g.class → IsAsked rows r a
   asked_still r a asked class = asked ∙ ap (λ (k : Class). Some k) (sym class)
 
-  pop_none : (r : Regs) → g.hand.items ≡ [] → IsAtBegin r → r.hand.items ≡ g.hand.items → HasNone (seated v r)
-  pop_none r none begin hand = record { begin = begin; hand = hand ∙ none; freed = refl }
+  pop_none : (r : Regs) → g.hand.items ≡ [] → IsAtBegin r → r.hand.items ≡ g.hand.items → HasNone r
+  pop_none r none begin hand = record { begin = begin; hand = hand ∙ none }
 
   pop_replies : (a : Asking) → Shape v g (cpu.Pop a) → Replies (cpu.Pop a)
   pop_replies a shape old new r given moves begin same = grind (arith, asked_still, goes_on, left_so, length-append, looks, no_push, pop_none, wants)
@@ -142,7 +140,7 @@ module _ (turn : Turn) where
   stock_does s there =
       let shape : Shape v g (cpu.Stock s) = there.sits.regs in
       let row : IsRow (cpu.Stock s) =
-      grind (arith, left_so (cpu.Stock s), rest_behind s, reply_few, wants g seq.PushBatch shape.0.seq, no_pop g.seq seq.PushBatch shape.0.seq refl) in
+      grind (arith, left_so (cpu.Stock s), rest_behind s, reply_few, wants g seq.PushBatch shape.0, no_pop g.seq seq.PushBatch shape.0 refl) in
       record { fits = fits (cpu.Stock s) there row; acts = acts (cpu.Stock s) there row }
 
   -- Push, and PopBatch: the object of a free is given away with what is behind it
@@ -171,20 +169,12 @@ module _ (turn : Turn) where
       )
 
   -- Grow
-  grow_behind : (a : Asking) (r : Regs) (o : Grew) → HasNone (seated v r) → IsAsked rows r a → Behind (cpu.Grow a) r (grew_to v a o)
+  grow_behind : (a : Asking) (r : Regs) (o : Grew) → HasNone r → IsAsked rows r a → Behind (cpu.Grow a) r (grew_to v a o)
   grow_behind a r o none asked = grind (arith, goes_on, looks)
 
   pub grow_does_all : (a : Asking) → There (cpu.Grow a) → Does turn (cpu.Grow a)
   grow_does_all a there =
-      let shape : Shape v g (cpu.Grow a) = there.sits.regs in
       let x = rseq.grew_here p g in
+      let keeps = lawful.grows (length rows) v.cpu.0 (thread_no t) p (seat turn (cpu.Grow a)) (home_of turn (cpu.Grow a) there refl) in
       let y : Grows p g x = grow_does (length rows) p g there.part there.ready.class in
-      let begin = y.begins (record { pc = shape.0.begin.pc; nothing = shape.0.begin.nothing }) in
-      let none : HasNone (seated v x.regs) = pop_none x.regs shape.0.hand (record { pc = begin.pc; nothing = begin.nothing }) y.hand in
-      let m : IsMoved turn x.cpu x.regs = grind (arith, y.rows g.class.0) in
-      record {
-        fits = (omega (arith, there.part.classes, there.ready.class), omega (arith, there.epoch));
-        acts = still turn (cpu.Grow a) x.cpu x.regs None None (grew_to v a x.answer) there m
-            (grow_behind a x.regs x.answer none (asked_still x.regs a shape.1 y.same.class)) refl
-            (lawful.grows (length rows) v.cpu.0 (thread_no t) p (seat turn (cpu.Grow a)) (home_of turn (cpu.Grow a) there refl) shape.0.begin.pc);
-      }
+      grind (arith, asked_still x.regs, grow_behind a x.regs x.answer, keeps, pop_none x.regs, still turn (cpu.Grow a) x.cpu x.regs, y)

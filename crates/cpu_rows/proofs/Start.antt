@@ -4,7 +4,7 @@ use Rattle.std.proofs.Common.{subst, arith, option_map, sum_by, All, slice_get, 
 use Rattle.cpu_rows.proofs.Common.{range_with_len, mod-lt, cond_both, false≢true, slice_get-map, slice_get_within, length-append}
 use Rattle.cpu_rows.proofs.Common.{length-replicate, length-map, length-range_with_len, sum_by-cons, All-nil, All-map, All-head}
 use Rattle.cpu_rows.proofs.Common.{All-tail, ClassRow, Config, CpuPart, CpuOk, SeatOk, Transfer, objects_at, of_all, CpuSeat, CpuRow, thread_no, AreRows}
-use Rattle.cpu_rows.proofs.Common.{HasRoom, slab_class, table_class, IsSlabOf, Standing, idle, CpuFrontPart, Cpu, Domain, cpu_stored, first_cpu, first_cache}
+use Rattle.cpu_rows.proofs.Common.{HasRoom, IsSlabOf, Standing, idle, CpuFrontPart, Cpu, Domain, cpu_stored, first_cpu, first_cache}
 use Rattle.cpu_rows.proofs.Common.{domain_caches, front_parts, cpu_front, seat_at, IsSeated, ArePlaced, CpuHolds, AreCpuLimits}
 use Rattle.cpu_slab.proofs.Opened.{sound_opened}
 use Rattle.std.proofs.lemmas.List.Elements.{All-append, All-replicate}
@@ -58,9 +58,10 @@ no_slots most k n [] = refl
 no_slots most zero n (row ∷ rows) = refl
 no_slots most (suc k) n (row ∷ rows) = no_slots most k n rows
 
-opened_classes : (most : ℕ) (rows : List ClassRow) → map slab_class (map (slots.empty_row most) rows) ≡ map table_class rows
+opened_classes : (most : ℕ) (rows : List ClassRow)
+    → map {B = ℕ × ℕ} (λ (r : slots.SlabRow). (r.size, r.batch)) (map (slots.empty_row most) rows) ≡ map {B = ℕ × ℕ} (λ (r : ClassRow). (r.size, r.batch)) rows
 opened_classes most [] = refl
-opened_classes most (row ∷ rows) = ap (λ cs. table_class row ∷ cs) (opened_classes most rows)
+opened_classes most (row ∷ rows) = ap (λ (cs : List (ℕ × ℕ)). (row.size, row.batch) ∷ cs) (opened_classes most rows)
 
 module _ (rows : List ClassRow) (c : Config) where
   -- a part as it was opened

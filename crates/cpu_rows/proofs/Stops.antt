@@ -1,11 +1,11 @@
 -- Acts of a thread that stops a CPU, and of one that leaves it at the end of its call.
-use Rattle.std.proofs.Common.{◌≡◌, refl, ℕ, ◌+◌, ◌*◌, ◌<◌, ◌≤◌, Bool, true, [], ◌∷◌, List, length, reverse, Option, Some, None, ap, sym, ◌∙◌, arith, is_some}
+use Rattle.std.proofs.Common.{◌≡◌, refl, ℕ, ◌+◌, ◌*◌, ◌<◌, ◌≤◌, Bool, true, [], ◌∷◌, List, length, reverse, Option, Some, None, ap, sym, ◌∙◌, arith, is_some, eqb, false}
 use Rattle.cpu_rows.proofs.Common.{cond_both, cases_eq, eqb-true, eq-eqb, lt-ltb, ltb-true, ltb-false, le-ltb, length-append, length-reverse, Contents, Addr}
-use Rattle.cpu_rows.proofs.Common.{Class, ThreadNo, Drain, Resize, MoveTo, CapFault, CpuSlab, row_at, held, cap_fault, set_unless, row_same}
+use Rattle.cpu_rows.proofs.Common.{Class, ThreadNo, Drain, Resize, MoveTo, CapFault, CpuSlab, row_at, held, with_cap_if, row_same}
 use Rattle.cpu_rows.proofs.Common.{row_other, CpuPart, Regs, IsHeld, Takes, take_does, IsOther, Draining, Resizing, Stopping, CpuStep, Next}
-use Rattle.cpu_rows.proofs.Common.{Other, leaving, stops, drained, took, cap_answer, left_for, about_cpu, at_cpu, cpu_of, taken_by, thread_no}
-use Rattle.cpu_rows.proofs.Common.{AreRows, most_slots, never, below, alone, empty_to_take, cpu_standing, IsStop, IsAtFirst, IsAtBegin, IsToCome, CpuShape}
-use Rattle.cpu_rows.proofs.Common.{Limits, limits_of, seated, objects_append, objects_reverse}
+use Rattle.cpu_rows.proofs.Common.{Other, leaving, leaves_or, stops, drained, took, cap_answer, about_cpu, at_cpu, cpu_of, taken_by, thread_no}
+use Rattle.cpu_rows.proofs.Common.{AreRows, most_slots, below, cpu_standing, IsStop, IsAtFirst, IsAtBegin, IsToCome, CpuShape}
+use Rattle.cpu_rows.proofs.Common.{ClassRow, Limits, limits_of, objects_append, objects_reverse}
 use Rattle.cpu_rows.specs.CpuRows.{stands}
 use Rattle.std.proofs.Math.Path.{fun_ext}
 use Rattle.cpu_drain.specs.Drains as drains
@@ -23,14 +23,23 @@ use Rattle.cpu_rows.proofs.Acts.{seat, slab_same}
 cap_other : (r : Resizing) (o : Option CapFault) → IsOther (Resize r.cpu r.class r.cap) (cap_answer o)
 cap_other r o = grind arith
 
--- a drain is to take class 0 behind its fence, below which there is none
-nothing_taken : (k : Class) (s : Stopping) → IsAtFirst k s → empty_to_take k.0 s ≡ never
-nothing_taken k s is = grind (arith, fun_ext, le-ltb)
+-- which classes the thread knows to be empty before a take
+abbrev empty_to_take : ℕ → Stopping → ℕ → Bool
+empty_to_take k (stopping.Drain d) = below k
+empty_to_take k (stopping.Resize r) = λ j. false
 
--- which classes the thread knows to be empty behind a take
+stands_to_take : (rows : List ClassRow) (k : ℕ) (s : Stopping) → cpu_standing rows k (cpu.Take s) ≡ stands (cpu_of s) true (empty_to_take k s)
+stands_to_take rows k s = grind arith
+
+-- a drain is to take class 0 behind its fence, below which there is none
+nothing_taken : (rows : List ClassRow) (k : Class) (s : Stopping) → IsAtFirst k s → cpu_standing rows k.0 (cpu.Take s) ≡ stands (cpu_of s) true (λ j. false)
+nothing_taken rows k (stopping.Drain d) is = ap (stands d.cpu true) (fun_ext (λ j. le-ltb j k.0 (omega (arith, is))))
+nothing_taken rows k (stopping.Resize r) is = refl
+
+-- and behind it
 abbrev empty_of : ℕ → Stopping → ℕ → Bool
 empty_of k (stopping.Drain d) = below (k + 1)
-empty_of k (stopping.Resize r) = alone r.class.0
+empty_of k (stopping.Resize r) = λ j. eqb j r.class.0
 
 is_empty : (m : Limits) (k : Class) (hand : Contents Addr) (p : CpuPart) (s : Stopping) → Takes p k.0 hand → k.0 < length p.slab.rows → IsStop m k s
     → ((j : ℕ) → empty_to_take k.0 s j ≡ true → (row_at p.slab j).top ≡ 0) → (j : ℕ) → empty_of k.0 s j ≡ true → (row_at (drains.taken p k.0).slab j).top ≡ 0
@@ -46,8 +55,8 @@ record IsDrainNext (m : Limits) (k : Class) (d : Draining) (next : Class × CpuS
   pub stand : cpu_standing m.rows next.0.0 next.1 ≡ stands d.cpu true (below (k.0 + 1))
 
 -- a capacity that is set, or refused, moves no object
-capped_rows : (slab : CpuSlab) (k n : ℕ) → k < length slab.rows → (o : Option CapFault) (j : ℕ) → held (row_at (set_unless o slab k n) j) ≡ held (row_at slab j)
-capped_rows slab k n within o j = grind (arith, cases_eq, row_other, row_same)
+capped_rows : (slab : CpuSlab) (k n : ℕ) → k < length slab.rows → (j : ℕ) → held (row_at (with_cap_if slab k n) j) ≡ held (row_at slab j)
+capped_rows slab k n within j = grind (arith, cond_both, cases_eq, row_other, row_same)
 
 module _ (turn : Turn) where
   open turn use {rows, config as c, thread as t, part as p, seat as v, regs as g, acts as count}
@@ -56,7 +65,7 @@ module _ (turn : Turn) where
   There row = IsThere turn row
 
   abbrev Shape : CpuStep → Type 0
-  Shape row = CpuShape (limits_of rows c) (seated v g) row
+  Shape row = CpuShape (limits_of rows c) v g row
 
   abbrev at : CpuStep → seats.Seat
   at row = seat turn row
@@ -97,7 +106,7 @@ module _ (turn : Turn) where
       → d'.cpu ≡ d.cpu → IsDrainNext (limits_of rows c) g.class d' to → (let n = drained v r xs to in TookSo (stopping.Drain d) r n.0 n.1)
   drained_so d d' r to [] is few begin same x =
       let new : Regs = record r { class = to.0 } in
-      grind (arith, goes_on rows c v (cpu.Take (stopping.Drain d)) to.1 g new, x.come.shape (seated v new))
+      grind (arith, goes_on rows c v (cpu.Take (stopping.Drain d)) to.1 g new, x.come.shape v new)
   drained_so d d' r to (y ∷ ys) is few begin same x = grind (arith, as_left, gives_away)
 
   took_so : (s : Stopping) (r : Regs) → length r.hand.items ≤ most_slots → r.class ≡ g.class → g.class.0 < length rows → IsAtBegin r
@@ -110,45 +119,37 @@ module _ (turn : Turn) where
       let k : ℕ = g.class.0 in
       let h : Contents Addr = drains.taken_to p k g.hand in
       let r : Regs = record g { hand = h } in
-      let has = held_of (cpu.Take s) s true (empty_to_take k s) there refl refl in
+      let stands_so = stands_to_take rows k s in
+      let has = held_of (cpu.Take s) s true (empty_to_take k s) there stands_so refl in
       let low : k < length rows = there.ready.class in
       let within : k < length p.slab.rows = omega (arith, there.part.classes, low) in
       let x : Takes p k g.hand = take_does (length rows) k p g.hand there.part low in
       let none : length g.hand.items ≡ 0 = ap length shape.0.hand in
       let back = length-reverse (held (row_at p.slab k)) in
       let all : length h.items ≡ length (held (row_at p.slab k)) = omega (arith, none, back, length-append g.hand.items (reverse (held (row_at p.slab k)))) in
-      let n : Regs × Next = took rows v r s in
-      let z : TookSo s r n.0 n.1 = took_so s r (omega (arith, all, x.few)) refl low (record { pc = shape.0.begin.pc; nothing = shape.0.begin.nothing })
-      shape.1 in
       let m : IsMoved turn (drains.taken p k) r = grind (arith, x.others, objects_append, objects_reverse) in
-      record {
-        fits = grind (arith, stopper_is (cpu.Take s) there has.stopper, has.fenced refl, taken_few (limits_of rows c) g.class s there.are low shape.1);
-        acts = goes turn (cpu.Take s) (drains.taken p k) r n.0 _ _ n.1 there m z.0 z.1 refl
-            (lawful.takes (length rows) (cpu_of s).0 k (thread_no t) p (at (cpu.Take s)) h (empty_of k s) there.part there.pair
-            (record { pc = shape.0.begin.pc; old = record { cpu = (cpu_of s).0; fenced = true; empty = empty_to_take k s }; is = refl; here = refl; fenced = refl }) low
-            (is_empty (limits_of rows c) g.class g.hand p s x within shape.1 (λ j known. (has.empty j known).1)));
-      }
+      let keeps = lawful.takes (length rows) (cpu_of s).0 k (thread_no t) p (at (cpu.Take s)) h (empty_of k s) there.part there.pair in
+      grind (
+        arith,
+        all,
+        goes turn (cpu.Take s) (drains.taken p k) r,
+        has,
+        is_empty (limits_of rows c) g.class g.hand p s x within,
+        keeps,
+        m,
+        stopper_is (cpu.Take s) there,
+        taken_few (limits_of rows c) g.class s there.are low,
+        took_so s r,
+        x.few,
+      )
 
   -- SetCap
   pub set_cap_does : (x : Resizing) → There (cpu.SetCap x) → Does turn (cpu.SetCap x)
   set_cap_does x there =
-      let shape : Shape (cpu.SetCap x) = there.sits.regs in
-      let k : ℕ = g.class.0 in
-      let mark : ℕ → Bool = alone x.class.0 in
+      let mark : ℕ → Bool = λ j. eqb j x.class.0 in
       let has = held_of (cpu.SetCap x) (stopping.Resize x) true mark there refl refl in
-      let within : k < length p.slab.rows = omega (arith, there.part.classes, there.ready.class) in
-      let zero : (row_at p.slab k).top ≡ 0 = (has.empty k (eq-eqb k x.class.0 (ap (λ (j : Class). j.0) shape.2))).1 in
-      record {
-        fits = record { fenced = record { stopper = stopper_is (cpu.SetCap x) there has.stopper; fenced = has.fenced refl }; there = within; empty = zero };
-        acts = quiet (cpu.SetCap x) (drains.capped p k x.cap)
-            (next.Decide (cap_answer (cap_fault p.slab k x.cap)) (Some (front.Cpu (cpu.Start (stopping.Resize x))))) (stands x.cpu true mark)
-            (stands x.cpu true mark) there shape.0.begin refl
-            (record { next = (cap_other x (cap_fault p.slab k x.cap), refl, refl); regs = (shape.0, shape.1); stands = refl; same = refl }) (omega arith)
-            (capped_rows p.slab k x.cap within (cap_fault p.slab k x.cap))
-            (lawful.sets_cap (length rows) x.cpu.0 k x.cap (thread_no t) p (at (cpu.SetCap x)) mark there.part there.pair
-            (record { pc = shape.0.begin.pc; old = record { cpu = x.cpu.0; fenced = true; empty = mark }; is = refl; here = refl; fenced = refl })
-            there.ready.class zero (λ j known. (has.empty j known).1));
-      }
+      let keeps = lawful.sets_cap (length rows) x.cpu.0 g.class.0 x.cap (thread_no t) p (at (cpu.SetCap x)) mark there.part there.pair in
+      grind (arith, cap_other, capped_rows p.slab g.class.0 x.cap, eq-eqb, has, keeps, quiet (cpu.SetCap x), stopper_is (cpu.SetCap x) there)
 
   -- Start
   starts : (s : Stopping) (n : Next) → There (cpu.Start s) → IsAtBegin g → Behind (cpu.Start s) g None n → Acts turn (cpu.Start s) (leaving (drains.started p) v g n)
@@ -158,7 +159,7 @@ module _ (turn : Turn) where
   start_does s there = grind (arith, held_of, starts, gives_away, stopper_is)
 
   -- Leave
-  leave_by : (o : Option MoveTo) → There cpu.Leave → v.moved ≡ o → is_some o ≡ true → Acts turn cpu.Leave (left_for p v g o)
+  leave_by : (o : Option MoveTo) → There cpu.Leave → v.moved ≡ o → is_some o ≡ true → Acts turn cpu.Leave (leaves_or o p v g next.End (leaving p v g next.End))
   leave_by o there is some = grind (arith, leave_acts)
 
   pub leave_does : There cpu.Leave → Does turn cpu.Leave

@@ -4,8 +4,8 @@ use Rattle.std.proofs.Common.{slice_get, Option, option_map}
 use Rattle.std.proofs.lemmas.Bool.Decides.{nat_tests}
 use Rattle.cpu_rows.proofs.Common.{eq-eqb, false_from_ne_true, eqb-true, false≢true, lt-ltb, length-append, ThreadNo, PartNo, MOST_PICKS, Input, Rules, World}
 use Rattle.cpu_rows.proofs.Common.{start, with_pair, set_here, set_elsewhere, CpuPart, Local, Step, thread_no, Part, front_of, after, rules, number}
-use Rattle.cpu_rows.proofs.Common.{front_after, front_yields, runs_open, yields_for, about_row, Kind, neither, act_kind, kind_at, kind_of, step_kind, entry}
-use Rattle.cpu_rows.proofs.Common.{closing, count_at, SwitchesAreFew, CpuHolds, IsSeated, cpu_planned, limits_of, IsValidInput, standing_of, slice_get-map}
+use Rattle.cpu_rows.proofs.Common.{front_after, front_yields, yields_for, about_row, Kind, enters, closes, neither, kind_at, kind_of, step_kind, counts}
+use Rattle.cpu_rows.proofs.Common.{count_at, SwitchesAreFew, CpuHolds, IsSeated, cpu_planned, limits_of, IsValidInput, standing_of, slice_get-map}
 use Rattle.alloc_rules.{proofs.First.served_first, proofs.Runs.served_kept, proofs.Serving.IsServed}
 use Rattle.alloc_rules.specs.declared.part.Part.TheVariants.{Front, Heap, Map, Names, Shard}
 use Rattle.cpu_rows.specs.Machine.{Cpu}
@@ -13,7 +13,7 @@ use Rattle.tc_model.{proofs.MovingFacts.pick_moves, specs.Chains.IsPolite, specs
 use Rattle.cpu_rows.specs.CpuFront as at
 use Rattle.alloc_rules.specs.Machine as machine
 use Rattle.cpu_rows.proofs.CpuLaw.{lawful_in}
-use Rattle.cpu_rows.proofs.Entering.{CopiesFew, DoesAs, Enters, Executes, HasToEnter, Stays, act_as, cpu_pair, executed, executed_few}
+use Rattle.cpu_rows.proofs.Entering.{CopiesFew, DoesAs, Enters, Executes, HasToEnter, Stays, act_as, cpu_pair, executed, executed_few, runs_open}
 
 -- A thread that switched in at CPU c, where nothing has ended since: it is in its sequence, and all that was executed there is its own.
 pub record HasEntered (c ins ends : ℕ) (w : World Part Local) : Type 0 where
@@ -109,20 +109,17 @@ module _ (input : Input) (c ins ends : ℕ) (w : World Part Local) (t : ℕ) (l 
           one = omega (arith, e.one);
         })
 
-    does_there : (k : Kind) → DoesAs k p l x → Balance c ins ends w → Balance c (ins + entry k) (ends + closing k) v
+    does_there : (k : Kind) → DoesAs k p l x → Balance c ins ends w → Balance c (ins + counts enters k) (ends + counts closes k) v
     does_there k a b = grind (arith, entered_there, executes_there, stays_there)
 
--- the kind of a pick, by the thread's place and the part there
+-- the kind of a pick, by the thread's place; elsewhere it is neither, whatever is at c
 kind_by_place : (r : Rules Part Local) (w : World Part Local) (c t : ℕ) (l : Local) (place : PartNo) → slice_get w.locals t ≡ Some l → r.want l ≡ Some place
-    → kind_of r w c t ≡ kind_at w c l (Some place)
+    → kind_of r w c t ≡ kind_at c l (Some place) (slice_get w.parts c)
 kind_by_place r w c t l place local want = rw (local, want) refl
 
-kind_here : (w : World Part Local) (c : ℕ) (l : Local) (place : PartNo) (part : Part) → place.0 ≡ c → slice_get w.parts c ≡ Some part
-    → act_kind l (Some part) ≡ kind_at w c l (Some place)
-kind_here w c l place part here there = rw (eq-eqb place.0 c here, there) refl
-
-kind_elsewhere : (w : World Part Local) (c : ℕ) (l : Local) (place : PartNo) → (place.0 ≡ c → ⊥) → neither ≡ kind_at w c l (Some place)
-kind_elsewhere w c l place apart = rw (false_from_ne_true (eqb place.0 c) (λ is. apart (eqb-true place.0 c is))) refl
+kind_elsewhere : (c : ℕ) (l : Local) (place : PartNo) (o : Option Part) → (place.0 ≡ c → ⊥) → kind_at c l (Some place) o ≡ neither
+kind_elsewhere c l place (Some (Front (at.Cpu p))) apart = rw (false_from_ne_true (eqb place.0 c) (λ is. apart (eqb-true place.0 c is))) refl
+kind_elsewhere c l place o apart = refl
 
 -- what is known of every run
 abbrev Served : Input → World Part Local → List ℕ → Type 0
@@ -154,24 +151,24 @@ module _ (input : Input) (valid : IsValidInput input) (c : ℕ) (w : World Part 
   class : m.local.regs.class.0 < length input.rows
   class = (served.works t m.local there_in).shaped.class
 
-  kind_is : kind_of r w c t ≡ kind_at w c m.local (Some m.place)
+  kind_is : kind_of r w c t ≡ kind_at c m.local (Some m.place) (slice_get w.parts c)
   kind_is = kind_by_place r w c t m.local m.place m.local_there m.wants
 
   module _ (ins ends : ℕ) where
     -- after a pick of this kind
     abbrev Behind : Kind → World Part Local → Type 0
-    Behind k u = Balance c (ins + entry k) (ends + closing k) u
+    Behind k u = Balance c (ins + counts enters k) (ends + counts closes k) u
 
     not_there : (part : Part) → slice_get w.parts c ≡ Some part → (u : World Part Local) → ((e : CpuPart) → part ≡ Cpu e → ⊥) → Balance c ins ends w → Behind neither u
     not_there part there u other given = grind arith
 
     at_part : (part : Part) → m.place.0 ≡ c → slice_get w.parts c ≡ Some part → machine.yields (front_of input) about_row part m.local ≡ true
-        → Balance c ins ends w → Behind (act_kind m.local (Some part)) (with_pair w c t (after input part m.local))
+        → Balance c ins ends w → Behind (kind_at c m.local (Some m.place) (Some part)) (with_pair w c t (after input part m.local))
     at_part (Front (at.Cpu p)) here there polite b =
         let act = act_as (limits_of input.rows input.asked.config) p m.local valid.rows class seat.regs (sym (yields_is input p m.local m.local.step) ∙ polite) in
-        subst (λ (pair : Part × Local). Behind (act_kind m.local (Some (Front (at.Cpu p)))) (with_pair w c t pair)) (sym (pair_is input p m.local m.local.step))
+        rw (eq-eqb m.place.0 c here) (subst (λ (pair : Part × Local). Behind (step_kind p m.local m.local.step) (with_pair w c t pair)) (sym (pair_is input p m.local m.local.step))
         (does_there input c ins ends w t m.local m.local_there seat.home m.place m.wants here p there (ap (λ (n : ThreadNo). n.0) seat.thread)
-        (cpu_pair input.rows p m.local m.local.step) (step_kind p m.local m.local.step) act b)
+        (cpu_pair input.rows p m.local m.local.step) (step_kind p m.local m.local.step) act b))
     at_part (Shard s) here there polite b = not_there (Shard s) there _ (λ e is. cc) b
     at_part (Heap h) here there polite b = not_there (Heap h) there _ (λ e is. cc) b
     at_part (Map x) here there polite b = not_there (Map x) there _ (λ e is. cc) b
@@ -186,8 +183,7 @@ module _ (input : Input) (valid : IsValidInput input) (c : ℕ) (w : World Part 
           moves_to,
           kind_is,
           at_part m.part,
-          kind_here w c m.local m.place m.part,
-          kind_elsewhere w c m.local m.place,
+          kind_elsewhere c m.local m.place,
           stays_elsewhere input c ins ends w t m.local m.local_there seat.home m.place (after input m.part m.local) m.wants,
         )
 
@@ -195,14 +191,14 @@ few_of : (c ins ends : ℕ) (w : World Part Local) → Balance c ins ends w → 
 few_of c ins ends w given = grind arith
 
 switches_from : (input : Input) → IsValidInput input → (c : ℕ) (order past : List ℕ) (w : World Part Local) (ins ends : ℕ) → length past + length order ≤ MOST_PICKS → Served input w past
-    → IsPolite (rules input) w order → Balance c ins ends w → ins + count_at entry (rules input) w c order ≤ ends + count_at closing (rules input) w c order + 1
+    → IsPolite (rules input) w order → Balance c ins ends w → ins + count_at enters (rules input) w c order ≤ ends + count_at closes (rules input) w c order + 1
 switches_from input valid c [] past w ins ends few served polite balance = omega (arith, few_of c ins ends w balance)
 switches_from input valid c (t ∷ ts) past w ins ends few served polite balance =
     let m = polite.0 in
     let kept = served_kept (lawful_in input valid) valid w past t m.local m.place m.part (omega arith) served m.local_there m.wants m.part_there m.moves in
     let next = subst (λ (u : World Part Local). Served input u (past ++ t ∷ [])) (sym (moves_to input valid c w past served t m)) kept in
     let kind : Kind = kind_of (rules input) w c t in
-    let rest = switches_from input valid c ts (past ++ t ∷ []) (pick (rules input) w t) (ins + entry kind) (ends + closing kind) (omega (arith, length-append past (t ∷ []))) next polite.1
+    let rest = switches_from input valid c ts (past ++ t ∷ []) (pick (rules input) w t) (ins + counts enters kind) (ends + counts closes kind) (omega (arith, length-append past (t ∷ []))) next polite.1
     (keeps input valid c w past served t m ins ends balance) in
     omega (arith, rest)
 

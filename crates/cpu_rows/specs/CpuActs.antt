@@ -62,27 +62,20 @@ abbrev pub at_cpu_next : CpuStep → Next
 at_cpu_next row = next.Row (front.Cpu row)
 
 -- The thread's own acts. Its move comes before the next instruction: it is the one that the move names.
-abbrev pub is_due : MoveTo → ℕ → Bool
-is_due move ran = move.before == ran + 1
-
 abbrev pub due : Option MoveTo → ℕ → Option MoveTo
 due None ran = None
-due (Some move) ran = if is_due move ran then Some move else None
+due (Some move) ran = if move.before == ran + 1 then Some move else None
 
--- the thread leaves for the CPU of its move, and nothing is loaded
-abbrev pub moves_to : CpuSeat → MoveTo → CpuSeat
-moves_to v move = record v { cpu = move.cpu; moved = None }
-
-abbrev pub leaves : CpuPart → CpuSeat → Regs → MoveTo → Next → Left CpuPart
-leaves p v r move n = leaving (rseq.left p r.thread) (moves_to v move) (rseq.dropped r) n
+-- a thread with a move leaves for the CPU of that, with nothing loaded, and this comes next; one without does this act
+abbrev pub leaves_or : Option MoveTo → CpuPart → CpuSeat → Regs → Next → Left CpuPart → Left CpuPart
+leaves_or None p v r n act = act
+leaves_or (Some move) p v r n act = leaving (rseq.left p r.thread) (record v { cpu = move.cpu; moved = None }) (rseq.dropped r) n
 
 -- the rows of the call programs by what a sequence replied
 abbrev pub after_pop : CpuSeat → Asking → Reply → Next
 after_pop v asking reply.Popped = next.Serve asking
 after_pop v asking reply.Empty = at_cpu_next (Grow asking)
-after_pop v asking reply.Stopped = looks_on v asking
-after_pop v asking reply.Full = looks_on v asking
-after_pop v asking (reply.Pushed n) = looks_on v asking
+after_pop v asking other = looks_on v asking
 
 -- all is pushed, or the rest is given away
 abbrev pub after_stock : CpuSeat → Serving → List Addr → Next
@@ -92,44 +85,27 @@ after_stock v s (a ∷ others) = gives v (giving.Rest s)
 abbrev pub after_push : List ClassRow → CpuSeat → Regs → Freeing → Reply → Regs × Next
 after_push rows v r f (reply.Pushed n) = (r, next.Freed f)
 after_push rows v r f reply.Full = (set_for r.class (seq.PopBatch (row_of rows r.class).batch) r, at_cpu_next (PopBatch f))
-after_push rows v r f reply.Stopped = (r, gives v (giving.Freed f))
-after_push rows v r f reply.Empty = (r, gives v (giving.Freed f))
-after_push rows v r f reply.Popped = (r, gives v (giving.Freed f))
+after_push rows v r f other = (r, gives v (giving.Freed f))
 
--- what the call does with the reply of its sequence
-abbrev pub replied : List ClassRow → CpuSeat → Regs → CpuStep → Reply → Regs × Next
-replied rows v r (Pop asking) o = (r, after_pop v asking o)
-replied rows v r (Stock s) o = (r, after_stock v s r.hand.items)
-replied rows v r (Push f) o = after_push rows v r f o
-replied rows v r (PopBatch f) o = (r, gives v (giving.Freed f))
-replied rows v r other o = (r, at_cpu_next other)
-
--- a sequence goes on, or its call does
-abbrev pub instructed_to : List ClassRow → CpuSeat → Regs → CpuStep → Instructed → Regs × Next
-instructed_to rows v r row instructed.In = (r, at_cpu_next row)
-instructed_to rows v r row instructed.Back = (r, at_cpu_next row)
-instructed_to rows v r row instructed.Ran = (r, at_cpu_next row)
-instructed_to rows v r row (instructed.Done o) = replied rows v r row o
-
-abbrev pub instructs : List ClassRow → CpuSeat → CpuStep → rseq.Acted Instructed → Left CpuPart
-instructs rows v row x = let n = instructed_to rows v x.regs row x.answer in leaving x.cpu v n.0 n.1
+-- a sequence goes on, or its call does with what it replied
+abbrev pub replied : List ClassRow → CpuSeat → Regs → Instructed → CpuStep → Regs × Next
+replied rows v r (instructed.Done o) (Pop asking) = (r, after_pop v asking o)
+replied rows v r (instructed.Done o) (Stock s) = (r, after_stock v s r.hand.items)
+replied rows v r (instructed.Done o) (Push f) = after_push rows v r f o
+replied rows v r (instructed.Done o) (PopBatch f) = (r, gives v (giving.Freed f))
+replied rows v r answer row = (r, at_cpu_next row)
 
 -- an act of a thread with a sequence: it leaves, switches in, goes back, or executes one instruction
-abbrev pub sequence_by : List ClassRow → CpuPart → CpuSeat → Regs → CpuStep → Option MoveTo → Left CpuPart
-sequence_by rows p v r row None = instructs rows v row (rseq.instructed p r)
-sequence_by rows p v r row (Some move) = leaves p v r move (at_cpu_next row)
-
 abbrev pub sequence : List ClassRow → CpuPart → CpuSeat → Regs → CpuStep → Left CpuPart
-sequence rows p v r row = sequence_by rows p v r row (due v.moved r.ran)
+sequence rows p v r row =
+    let x = rseq.instructed p r in
+    let n = replied rows v x.regs x.answer row in
+    leaves_or (due v.moved r.ran) p v r (at_cpu_next row) (leaving x.cpu v n.0 n.1)
 
 -- an act of a thread with a growth to do
 abbrev pub grew_to : CpuSeat → Asking → Grew → Next
-grew_to v asking grew.In = at_cpu_next (Grow asking)
-grew_to v asking grew.Back = at_cpu_next (Grow asking)
 grew_to v asking grew.Done = looks_on v asking
-
-abbrev pub grows : CpuSeat → Asking → rseq.Acted Grew → Left CpuPart
-grows v asking x = leaving x.cpu v x.regs (grew_to v asking x.answer)
+grew_to v asking other = at_cpu_next (Grow asking)
 
 -- The acts of a thread that stops the CPU.
 abbrev pub stops : CpuPart → ThreadNo → Stopping → Option ThreadNo → CpuPart × Next
@@ -155,24 +131,16 @@ cap_answer None = CapSet
 cap_answer (Some (fault.OverStatic cap)) = OverStatic cap
 cap_answer (Some (fault.OverLimit sum)) = OverLimit sum
 
--- behind the start a resize gives away what it took
-abbrev pub gives_taken : CpuSeat → List Addr → Next
-gives_taken v [] = next.End
-gives_taken v (a ∷ others) = gives v giving.End
-
+-- behind the start a drain is decided, and a resize gives away what it took
 abbrev pub started : CpuSeat → List Addr → Stopping → Next
 started v hand (stopping.Drain d) = next.Decide (Drained d.taken) None
-started v hand (stopping.Resize x) = gives_taken v hand
-
--- the thread leaves for the CPU of its move, and its call ends
-abbrev pub left_for : CpuPart → CpuSeat → Regs → Option MoveTo → Left CpuPart
-left_for p v r None = leaving p v r next.End
-left_for p v r (Some move) = leaves p v r move next.End
+started v [] (stopping.Resize x) = next.End
+started v (a ∷ others) (stopping.Resize x) = gives v giving.End
 
 -- the acts at a CPU
 abbrev pub cpu_acts : List ClassRow → CpuPart → CpuSeat → Regs → CpuStep → Left CpuPart
 cpu_acts rows p v r (Pop asking) = sequence rows p v r (Pop asking)
-cpu_acts rows p v r (Grow asking) = grows v asking (rseq.grew_here p r)
+cpu_acts rows p v r (Grow asking) = let x = rseq.grew_here p r in leaving x.cpu v x.regs (grew_to v asking x.answer)
 cpu_acts rows p v r (Stock s) = sequence rows p v r (Stock s)
 cpu_acts rows p v r (Push f) = sequence rows p v r (Push f)
 cpu_acts rows p v r (PopBatch f) = sequence rows p v r (PopBatch f)
@@ -181,33 +149,31 @@ cpu_acts rows p v r (Fence s) = leaving (drains.fenced p) v r (at_cpu_next (Take
 cpu_acts rows p v r (Take s) = let n = took rows v (record r { hand = drains.taken_to p r.class.0 r.hand }) s in leaving (drains.taken p r.class.0) v n.0 n.1
 cpu_acts rows p v r (SetCap x) = leaving (drains.capped p r.class.0 x.cap) v r (next.Decide (cap_answer (cap_fault p.slab r.class.0 x.cap)) (Some (front.Cpu (Start (stopping.Resize x)))))
 cpu_acts rows p v r (Start s) = leaving (drains.started p) v r (started v r.hand.items s)
-cpu_acts rows p v r Leave = left_for p v r v.moved
+cpu_acts rows p v r Leave = leaves_or v.moved p v r next.End (leaving p v r next.End)
 
 -- The cache of a domain gives the last of its objects, last first, or none where it holds none.
 abbrev pub takes : Regs → Asking → List Addr → Regs × Next
 takes r asking [] = (r, next.Fetch asking)
 takes r asking (a ∷ others) = (record r { hand = appended r.hand (a ∷ others) }, next.Serve asking)
 
--- a cache with a list behind its objects
-abbrev pub put_in : Transfer → List Addr → Transfer
-put_in t objects = record { objects = t.objects ++ objects; room = t.room }
-
 -- the hand is put there where all of it fits, and else it goes to the shard
 abbrev pub puts : Transfer → Regs → Giving CpuStep → Transfer × Regs × Next
-puts t r g = if nat_le (length t.objects + length r.hand.items) t.room then (put_in t r.hand.items, record r { hand = emptied r.hand }, next.Gave (as_row g)) else (t, r, next.Give (as_row g))
+puts t r g =
+    if nat_le (length t.objects + length r.hand.items) t.room then
+    (record t { objects = t.objects ++ r.hand.items }, record r { hand = emptied r.hand }, next.Gave (as_row g))
+    else (t, r, next.Give (as_row g))
 
 -- the acts at the cache of a domain
 abbrev pub domain_acts : List ClassRow → Transfer → CpuSeat → Regs → DomainStep → Left Transfer
 domain_acts rows t v r (domain.Take asking) =
-    let n = takes r asking (last_first (row_of rows r.class).batch t.objects) in leaving (record { objects = without_last (row_of rows r.class).batch t.objects; room = t.room }) v n.0 n.1
+    let batch : ℕ = (row_of rows r.class).batch in
+    let n = takes r asking (last_first batch t.objects) in
+    leaving (record t { objects = without_last batch t.objects }) v n.0 n.1
 domain_acts rows t v r (domain.Put g) = let n = puts t r g in leaving n.0 v n.1 n.2
 
 -- Yielding: a thread isn't polite to switch in where another runs whose sequence is open and hasn't executed 256 instructions yet.
-abbrev pub runs_open : CpuPart → Bool
-runs_open p = is_some p.running && p.is_open && nat_lt p.ran 256
-
 abbrev pub yields_to_enter : CpuPart → ThreadNo → Bool
-yields_to_enter p t = rseq.runs p.running t || not (runs_open p)
+yields_to_enter p t = rseq.runs p.running t || not (is_some p.running && p.is_open && nat_lt p.ran 256)
 
 abbrev pub yields_row : CpuPart → CpuSeat → Regs → CpuStep → Bool
 yields_row p v r (Pop asking) = is_some (due v.moved r.ran) || yields_to_enter p r.thread

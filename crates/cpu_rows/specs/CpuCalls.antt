@@ -1,5 +1,5 @@
 -- The per-CPU caches as a front-end: with which of their rows calls begin and go on, and what their acts leave.
-use Rattle.std.specs.Prelude.{Bool, true, List, Option, Some, None}
+use Rattle.std.specs.Prelude.{Bool, true, List, Option, Some, None, option_and_then}
 use Rattle.tc_units.specs.declared.spans.ClassRow.{ClassRow}
 use Rattle.tc_model.specs.declared.calls.Call.{Call}
 use Rattle.tc_model.specs.declared.calls.Call.TheVariants.{Drain, Resize}
@@ -9,7 +9,6 @@ use Rattle.rseq_core.specs.declared.cpu_part.CpuPart.{CpuPart}
 use Rattle.rseq_core.specs.declared.regs.Regs.{Regs}
 use Rattle.rseq_core.specs.declared.sequence.Seq.{Seq}
 use Rattle.rseq_core.specs.declared.sequence.Seq.TheVariants as seq
-use Rattle.transfer_cache.specs.Transfer.{Transfer}
 use Rattle.cpu_rows.specs.declared.seat.CpuSeat.{CpuSeat}
 use Rattle.cpu_rows.specs.declared.row.Stopping.TheVariants as stopping
 use Rattle.call_steps.specs.declared.step.Step.TheVariants as step
@@ -17,29 +16,21 @@ use Rattle.cpu_rows.specs.declared.row.CpuRow.{CpuRow}
 use Rattle.cpu_rows.specs.declared.row.CpuRow.TheVariants as front
 use Rattle.cpu_rows.specs.declared.row.CpuStep.{CpuStep}
 use Rattle.cpu_rows.specs.declared.row.CpuStep.TheVariants.{Pop, Stock, Push, Stop, Leave}
-use Rattle.cpu_rows.specs.declared.row.DomainStep.{DomainStep}
 use Rattle.cpu_rows.specs.PerCpu.{CpuLocal, Step}
 use Rattle.call_steps.specs.Fronts.{FrontCalls}
 use Rattle.rseq_core.specs.Registers.{set_for}
 use Rattle.call_steps.specs.Calls.{About, call_about}
 use Rattle.call_steps.specs.Follows.{follows}
-use Rattle.cpu_rows.specs.CpuRows.{about_cpu, about_domain}
-use Rattle.cpu_rows.specs.CpuActs.{Left, cpu_acts, domain_acts, yields_row}
+use Rattle.cpu_rows.specs.CpuRows.{about_cpu}
+use Rattle.cpu_rows.specs.CpuActs.{Left, cpu_acts, yields_row}
 
 -- the registers are set for a sequence of their class
 abbrev pub to_sequence : Seq → Regs → Regs
 to_sequence s r = set_for r.class s r
 
-abbrev pub starts : CpuLocal → Seq → CpuLocal
-starts l s = record l { regs = to_sequence s l.regs }
-
 -- a call begins with the move that is planned with it
-abbrev pub move_of : Option Planned → Option MoveTo
-move_of None = None
-move_of (Some p) = p.moved
-
 abbrev pub with_move : CpuSeat → Option Planned → CpuSeat
-with_move v p = record v { moved = move_of p }
+with_move v o = record v { moved = option_and_then (λ (p : Planned). p.moved) o }
 
 -- a drain or a resize stops its CPU first
 abbrev pub stop_row : Call → Option CpuRow
@@ -73,15 +64,12 @@ cpu_calls rows =
       last = λ v. leave_row v.moved;
     }
 
--- an act of theirs with what comes behind it
+-- what an act of a row at a CPU leaves of it and its thread, with what comes behind it
 abbrev pub with_next : {P : Type 0} → List ClassRow → CpuLocal → About → Left P → P × CpuLocal
 with_next rows l about x = (x.part, follows (cpu_calls rows) (record l { seat = x.seat; regs = x.regs }) (call_about about) x.next)
 
 abbrev pub cpu_row : List ClassRow → CpuPart → CpuLocal → CpuStep → CpuPart × CpuLocal
 cpu_row rows p l row = with_next rows l (about_cpu row) (cpu_acts rows p l.seat l.regs row)
-
-abbrev pub domain_row : List ClassRow → Transfer → CpuLocal → DomainStep → Transfer × CpuLocal
-domain_row rows t l row = with_next rows l (about_domain row) (domain_acts rows t l.seat l.regs row)
 
 -- whether an act at a CPU is polite, by the step
 abbrev pub yields_for : CpuPart → CpuLocal → Step → Bool

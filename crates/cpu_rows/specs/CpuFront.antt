@@ -12,13 +12,11 @@ use Rattle.cpu_rows.specs.declared.seat.CpuSeat.{CpuSeat}
 use Rattle.cpu_rows.specs.declared.row.CpuRow.{CpuRow}
 use Rattle.cpu_rows.specs.declared.row.CpuRow.TheVariants as front
 use Rattle.call_steps.specs.declared.step.Next.TheVariants as next
-use Rattle.call_steps.specs.Local.{idle_local}
-use Rattle.cpu_rows.specs.PerCpu.{CpuLocal}
 use Rattle.cpu_rows.specs.CpuRows.{cpu_place}
 use Rattle.cpu_rows.specs.CpuActs.{Left, cpu_acts, domain_acts, yields_row}
 use Rattle.cpu_rows.specs.CpuCalls.{cpu_calls}
 use Rattle.cpu_rows.specs.CpuRows.{cpu_refuses}
-use Rattle.call_steps.specs.Fronts.{FrontRules}
+use Rattle.call_steps.specs.Fronts.{FrontRules, leaving}
 pub use Rattle.cpu_rows.specs.declared.part.CpuFrontPart.{CpuFrontPart}
 pub use Rattle.cpu_rows.specs.declared.part.CpuFrontPart.TheVariants.{Cpu, Domain}
 
@@ -28,17 +26,10 @@ cpu_stored (Cpu p) k n = objects_at n (held (row_at p.slab k))
 cpu_stored (Domain c t) k n = if c.0 == k then objects_at n t.objects else 0
 
 -- what an act leaves
-abbrev pub left_with : {P : Type 0} → (P → CpuFrontPart) → Left P → Left CpuFrontPart
-left_with as_part x = record { part = as_part x.part; seat = x.seat; regs = x.regs; next = x.next }
-
 abbrev pub front_acts : List ClassRow → CpuFrontPart → CpuSeat → Regs → CpuRow → Left CpuFrontPart
-front_acts rows (Cpu p) v g (front.Cpu row) = left_with Cpu (cpu_acts rows p v g row)
-front_acts rows (Domain c t) v g (front.Domain row) = left_with (Domain c) (domain_acts rows t v g row)
-front_acts rows p v g row = record { part = p; seat = v; regs = g; next = next.Row row }
-
--- a thread with this seat and these registers, and without a call
-abbrev pub seated : CpuSeat → Regs → CpuLocal
-seated v g = record (idle_local g.thread v) { regs = g }
+front_acts rows (Cpu p) v g (front.Cpu row) = let x = cpu_acts rows p v g row in leaving (Cpu x.part) x.seat x.regs x.next
+front_acts rows (Domain c t) v g (front.Domain row) = let x = domain_acts rows t v g row in leaving (Domain c x.part) x.seat x.regs x.next
+front_acts rows p v g row = leaving p v g (next.Row row)
 
 -- whether it is polite
 abbrev pub front_yields : CpuFrontPart → CpuSeat → Regs → CpuRow → Bool

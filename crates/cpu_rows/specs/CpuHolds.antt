@@ -10,20 +10,22 @@ use Rattle.rseq_core.specs.declared.regs.Regs.{Regs}
 use Rattle.rseq_core.specs.declared.regs.TheConstants.{LOADED_ROOM}
 use Rattle.rseq_core.specs.Bags.{room}
 use Rattle.cpu_drain.specs.Seats as seats
-use Rattle.cpu_drain.specs.Seats.{CpuOk, SeatOk}
+use Rattle.cpu_drain.specs.Seats.{CpuOk, SeatOk, IsAtBegin}
 use Rattle.transfer_cache.specs.Transfer.{Transfer}
 use Rattle.cpu_rows.specs.declared.seat.CpuSeat.{CpuSeat}
 use Rattle.cpu_rows.specs.declared.row.CpuRow.{CpuRow}
 use Rattle.cpu_rows.specs.declared.row.CpuRow.TheVariants as front
+use Rattle.cpu_rows.specs.declared.row.DomainStep.TheVariants as domain
+use Rattle.call_steps.specs.declared.step.Giving.TheVariants as giving
 use Rattle.alloc_rules.specs.Inputs.{Limits, limits_of, IsMove, IsPlanned}
-use Rattle.cpu_rows.specs.Shapes.{IsAtBegin, IsLater, CpuShape, DomainShape, domain_standing, later_standing}
+use Rattle.cpu_rows.specs.Shapes.{IsToCome, CpuShape, DomainShape}
 use Rattle.cpu_rows.specs.CpuRows.{cpu_standing}
 use Rattle.cpu_rows.specs.CpuFits.{FitsCpu, FitsDomain}
 use Rattle.call_steps.specs.Local.{thread_no}
 use Rattle.cpu_rows.specs.Slabs.{IsSlabOf}
 use Rattle.alloc_rules.specs.Heads.{HasRoom}
 use Rattle.alloc_rules.specs.Standings.{At, Here, Later, Away, Standing}
-use Rattle.cpu_rows.specs.CpuFront.{CpuFrontPart, Cpu, Domain, seated}
+use Rattle.cpu_rows.specs.CpuFront.{CpuFrontPart, Cpu, Domain}
 
 -- the calls that a trace may plan
 abbrev pub cpu_planned : List ClassRow → Config → Planned → Type 0
@@ -35,21 +37,23 @@ cpu_fits rows (Cpu p) v g (front.Cpu row) = FitsCpu rows p v g row × (g.ran ≤
 cpu_fits rows (Domain c t) v g (front.Domain row) = FitsDomain rows g row
 cpu_fits rows p v g row = ⊥
 
--- what a call has done to the CPU that it stopped, by where its thread stands
+-- What a call has done to the CPU that it stopped, by where its thread stands: while its hand is given away, as at the row that
+-- comes behind that, which is at a CPU.
 abbrev pub stopping_at : List ClassRow → Regs → At CpuRow → Option seats.Standing
 stopping_at rows g (Here (front.Cpu row)) = cpu_standing rows g.class.0 row
-stopping_at rows g (Here (front.Domain row)) = domain_standing rows row
-stopping_at rows g (Later k row) = later_standing rows k.0 row
-stopping_at rows g Away = None
+stopping_at rows g (Here (front.Domain (domain.Put (giving.Row k row)))) = cpu_standing rows k.0 row
+stopping_at rows g (Later k (front.Cpu row)) = cpu_standing rows k.0 row
+stopping_at rows g at = None
 
 abbrev pub seat_at : List ClassRow → Standing CpuSeat CpuRow → seats.Seat
 seat_at rows s = record { regs = s.regs; cpu = s.seat.cpu.0; standing = stopping_at rows s.regs s.at }
 
 -- the registers by where the thread stands: at a row they have its shape, and elsewhere no sequence is under way
 abbrev pub RegsAt : Limits → CpuSeat → Regs → At CpuRow → Type 0
-RegsAt m v g (Here (front.Cpu row)) = CpuShape m (seated v g) row
-RegsAt m v g (Here (front.Domain row)) = DomainShape m (seated v g) row
-RegsAt m v g (Later k row) = IsAtBegin g × IsLater m k row
+RegsAt m v g (Here (front.Cpu row)) = CpuShape m v g row
+RegsAt m v g (Here (front.Domain row)) = DomainShape m v g row
+RegsAt m v g (Later k (front.Cpu row)) = IsAtBegin g × IsToCome m k row
+RegsAt m v g (Later k (front.Domain row)) = ⊥
 RegsAt m v g Away = IsAtBegin g
 
 -- a thread: its CPU and its move are there, it has executed no more instructions than it did acts

@@ -17,7 +17,6 @@ use Rattle.cpu_rows.specs.declared.row.CpuRow.{CpuRow}
 use Rattle.cpu_rows.specs.declared.row.CpuRow.TheVariants as front
 use Rattle.cpu_rows.specs.declared.row.CpuStep.{CpuStep}
 use Rattle.cpu_rows.specs.declared.row.CpuStep.TheVariants.{Pop, Grow, Stock, Push, PopBatch, Stop, Fence, Take, SetCap, Start, Leave}
-use Rattle.cpu_rows.specs.declared.row.DomainStep.{DomainStep}
 use Rattle.cpu_rows.specs.declared.row.DomainStep.TheVariants as domain
 use Rattle.call_steps.specs.Calls.{About, Asks, Publishes, Frees, Other, about_giving}
 
@@ -26,6 +25,7 @@ abbrev pub call_of : Stopping → Call
 call_of (stopping.Drain d) = Drain d.cpu
 call_of (stopping.Resize r) = Resize r.cpu r.class r.cap
 
+-- what the row that starts a stopped CPU again is about
 abbrev pub about_start : Stopping → About
 about_start (stopping.Drain d) = Other (Some (Drain d.cpu))
 about_start (stopping.Resize r) = Other None
@@ -112,13 +112,11 @@ abbrev pub cpu_refuses : CpuRow → Answer → Bool
 cpu_refuses (front.Cpu row) answer = (cpu_rule row).refuses answer
 cpu_refuses (front.Domain row) answer = false
 
-abbrev pub about_domain : DomainStep → About
-about_domain (domain.Take a) = Asks a
-about_domain (domain.Put g) = about_giving about_cpu g
-
+-- what all their rows are about
 abbrev pub about_row : CpuRow → About
 about_row (front.Cpu row) = about_cpu row
-about_row (front.Domain row) = about_domain row
+about_row (front.Domain (domain.Take a)) = Asks a
+about_row (front.Domain (domain.Put g)) = about_giving about_cpu g
 
 -- what is given away behind which a row at a CPU may come, as the calls have it
 abbrev pub as_row : Giving CpuStep → Giving CpuRow

@@ -1,10 +1,7 @@
 -- The allocator over the per-CPU caches as a machine.
-use Rattle.std.specs.Prelude.{ℕ, List}
 use Rattle.tc_model.specs.Input.{Input}
 use Rattle.tc_model.specs.Run.{Rules}
 use Rattle.rseq_core.specs.declared.cpu_part.CpuPart.{CpuPart}
-use Rattle.transfer_cache.specs.Transfer.{Transfer}
-use Rattle.tc_units.specs.declared.units.Class.{Class}
 use Rattle.cpu_rows.specs.declared.seat.CpuSeat.{CpuSeat}
 use Rattle.cpu_rows.specs.declared.row.CpuRow.{CpuRow}
 use Rattle.cpu_rows.specs.PerCpu.{CpuLocal}
@@ -20,37 +17,17 @@ use Rattle.cpu_rows.specs.CpuFront.{CpuFrontPart, cpu_front}
 abbrev pub Part : Type 0
 Part = AnyPart CpuFrontPart
 
-abbrev pub Parts : Type 0
-Parts = machine.Parts CpuFrontPart
-
 abbrev pub Cpu : CpuPart → Part
 Cpu p = part.Front (caches.Cpu p)
-
-abbrev pub Domain : Class → Transfer → Part
-Domain c t = part.Front (caches.Domain c t)
 
 -- the caches of an input, as a front-end
 abbrev pub front_of : Input → FrontRules CpuFrontPart CpuSeat CpuRow
 front_of input = cpu_front input.rows input.asked.config
 
--- all parts in the order of their numbers, of so many CPUs
-abbrev pub parts_of : ℕ → Parts → List Part
-parts_of cpus p = machine.parts_of cpus p
-
 -- the pair that an act leaves
 abbrev pub after : Input → Part → CpuLocal → Part × CpuLocal
 after input q l = machine.after (front_of input) about_row q l
 
--- a thread, and the parts, at the start
-abbrev pub first_of : Input → ℕ → CpuLocal
-first_of input t = machine.first_of (front_of input) about_row input.asked t
-
-abbrev pub first_parts : Input → Parts
-first_parts input = machine.first_parts (front_of input) about_row input.asked
-
--- the allocator's rules, and the threads of the calls in trace order
+-- the allocator's rules
 abbrev pub rules : Input → Rules Part CpuLocal
 rules input = machine.rules (front_of input) about_row input.asked
-
-abbrev pub turns : Input → List ℕ
-turns input = machine.turns input.asked

@@ -4,13 +4,15 @@ ghost use Rattle.std.specs.Prelude.{◌≡◌, ◌≢◌, ◌<◌, ◌+◌, ◌-
 ghost use Rattle.tc_model.specs.declared.calls.Call.TheVariants.{Drain};
 ghost use Rattle.cpu_slab.specs.Caps.{cap_fault};
 ghost use Rattle.rseq_core.specs.Acts as rseq;
+ghost use Rattle.rseq_core.specs.declared.answers.Instructed.TheVariants as answer;
 ghost use Rattle.cpu_drain.specs.Drains as drains;
 ghost use Rattle.cpu_rows.specs.declared.row.CpuRow.TheVariants as front;
 ghost use Rattle.cpu_rows.specs.declared.row.CpuStep.TheVariants.{Grow, Take, Start};
 ghost use Rattle.call_steps.specs.declared.step.Next.TheVariants as next;
 ghost use Rattle.call_steps.specs.Follows.{next_of, Stays};
+ghost use Rattle.call_steps.specs.Fronts.{leaving};
 ghost use Rattle.cpu_rows.specs.declared.row.Stopping.TheVariants as stopping;
-ghost use Rattle.cpu_rows.specs.CpuActs.{due, cpu_acts, sequence, replied, after_pop, after_stock, after_push, grew_to, stops, drains_on, took, cap_answer, started, left_for, yields_to_enter, yields_row};
+ghost use Rattle.cpu_rows.specs.CpuActs.{due, leaves_or, cpu_acts, sequence, replied, after_pop, after_stock, after_push, grew_to, stops, drains_on, took, cap_answer, started, yields_to_enter, yields_row};
 ghost use Rattle.cpu_rows.specs.CpuFits.{FitsCpu, FitsSequence, FitsSetCap, IsSequence, taken_by};
 
 use crate::row::{CpuRow, CpuStep, Draining, Resizing, Stopping};
@@ -124,8 +126,8 @@ fn go_on(
 ) -> Came
     requires class { regs.old.class.0 < length table.now }
     requires row { IsSequence row.old }
-    ensures regs { regs.new ≡ (replied table.now seat.now regs.old row.old reply).0 }
-    ensures next { next_of result (front.Cpu row.new) next.new ≡ (replied table.now seat.now regs.old row.old reply).1 }
+    ensures regs { regs.new ≡ (replied table.now seat.now regs.old (answer.Done reply) row.old).0 }
+    ensures next { next_of result (front.Cpu row.new) next.new ≡ (replied table.now seat.now regs.old (answer.Done reply) row.old).1 }
     ensures stays { Stays result (front.Cpu row.old) (front.Cpu row.new) }
 {
     match *row {
@@ -369,9 +371,9 @@ fn started(seat: &CpuSeat, regs: &Regs, stopping: Stopping) -> Next<CpuRow>
 fn leave_at_end(cpu: &mut CpuPart, seat: &mut CpuSeat, regs: &mut Regs) -> Next<CpuRow>
     requires moved { is_some seat.old.moved ≡ true }
     requires epoch { cpu.old.epoch < 2 ^ 64 - 1 }
-    ensures cpu { cpu.new ≡ (left_for cpu.old seat.old regs.old seat.old.moved).part }
-    ensures seat { seat.new ≡ (left_for cpu.old seat.old regs.old seat.old.moved).seat }
-    ensures regs { regs.new ≡ (left_for cpu.old seat.old regs.old seat.old.moved).regs }
+    ensures cpu { cpu.new ≡ (leaves_or seat.old.moved cpu.old seat.old regs.old next.End (leaving cpu.old seat.old regs.old next.End)).part }
+    ensures seat { seat.new ≡ (leaves_or seat.old.moved cpu.old seat.old regs.old next.End (leaving cpu.old seat.old regs.old next.End)).seat }
+    ensures regs { regs.new ≡ (leaves_or seat.old.moved cpu.old seat.old regs.old next.End (leaving cpu.old seat.old regs.old next.End)).regs }
     ensures next { result ≡ next.End }
 {
     match seat.moved {

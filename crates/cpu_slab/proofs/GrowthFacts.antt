@@ -1,6 +1,6 @@
 -- Growth changes capacities alone, and stays in the budget.
 use Rattle.std.proofs.Common.{◌≡◌, ◌≢◌, ℕ, zero, suc, ◌+◌, ◌-◌, ◌*◌, ◌/◌, ◌%◌, ◌<◌, ◌≤◌, eqb, leb, ltb, List, [], ◌∷◌, length, map, get_or}
-use Rattle.std.proofs.Common.{Option, Some, None, unwrap_or, option_map, refl, arith, min}
+use Rattle.std.proofs.Common.{Option, Some, None, unwrap_or, option_map, option_and_then, refl, arith, min}
 use Rattle.std.specs.List.{flat_map}
 use Rattle.std.specs.Int.{div_ceil}
 use Rattle.std.proofs.lemmas.Bool.{cond_both, eqb-false}
@@ -9,7 +9,7 @@ use Rattle.std.proofs.lemmas.Bool.Decides.{nat_tests}
 use Rattle.cpu_slab.specs.declared.marks.Unused.{Unused}
 use Rattle.cpu_slab.specs.Slots.{SlabRow, CpuSlab, no_row, row_at, with_cap}
 use Rattle.cpu_slab.specs.Slots as slots
-use Rattle.cpu_slab.specs.Growth.{used, rise, unused, preferred, victim, given_up, taken_from, widened, roomy, grown}
+use Rattle.cpu_slab.specs.Growth.{used, rise, unused, preferred, victim, given_up, widened, roomy, grown}
 use Rattle.cpu_slab.specs.Sound.{IsSoundSlab}
 use Rattle.cpu_slab.proofs.SlabFacts.{row_other, row_sound, row_slots, used_set, sound_cap, flat_map-set_same, field_same, tops_same}
 
@@ -86,15 +86,19 @@ IsRoomyIf slab k need (Some rows) = IsRoomy slab k need rows
 abbrev short_of : CpuSlab → ℕ → ℕ
 short_of slab need = need - (slab.limit - used slab.rows)
 
-given_up_ok : (slab : CpuSlab) (k v need : ℕ) → IsSoundSlab slab → v < length slab.rows → v ≢ k → IsRoomyIf slab k need (given_up slab.rows v (div_ceil (short_of slab need) (row_at slab v).size))
-given_up_ok slab k v need sound low apart = grind (arith, nat_tests, row_sound, cond_both, freed_by, rounded_up, keeps_cap, row_slots, row_other)
+-- what the victim gives up, if there is one
+abbrev taken : CpuSlab → ℕ → Option Unused → Option (List SlabRow)
+taken slab need o = option_and_then (λ (best : Unused). given_up slab.rows best.class (div_ceil (short_of slab need) (row_at slab best.class).size)) o
 
-taken_ok : (slab : CpuSlab) (k need : ℕ) (o : Option Unused) → IsSoundSlab slab → IsOther k (length slab.rows) o → IsRoomyIf slab k need (taken_from slab.rows (short_of slab need) o)
+taken_ok : (slab : CpuSlab) (k need : ℕ) (o : Option Unused) → IsSoundSlab slab → IsOther k (length slab.rows) o → IsRoomyIf slab k need (taken slab need o)
 taken_ok slab k need None sound is = tt
-taken_ok slab k need (Some best) sound is = given_up_ok slab k best.class need sound is.1 is.0
+taken_ok slab k need (Some best) sound is = grind (arith, nat_tests, row_sound, cond_both, freed_by, rounded_up, keeps_cap, row_slots, row_other)
 
 pub roomy_ok : (slab : CpuSlab) (k need : ℕ) → IsSoundSlab slab → IsRoomyIf slab k need (roomy slab k need)
-roomy_ok slab k need sound = grind (arith, nat_tests, cond_both, keeps_same, taken_ok, victim_other)
+roomy_ok slab k need sound =
+    let o : Option Unused = victim k 0 (map unused slab.rows) in
+    cond_both (leb need (slab.limit - used slab.rows)) (Some slab.rows) (taken slab need o) (IsRoomyIf slab k need) (λ e. grind (arith, nat_tests, keeps_same))
+    (λ e. taken_ok slab k need o sound (victim_other slab.rows k))
 
 -- a class grows where there is room
 pub wider_used : (slab : CpuSlab) (k : ℕ) → k < length slab.rows → used (widened k slab.rows) ≡ used slab.rows + rise (row_at slab k) * (row_at slab k).size

@@ -1,5 +1,5 @@
 -- What a change of one class makes of a slab, over values.
-use Rattle.std.proofs.Common.{◌≡◌, ◌≢◌, ℕ, zero, suc, ◌+◌, ◌<◌, ◌≤◌, inl, inr, ◌⊎◌, List, [], ◌∷◌, ◌++◌, length, get_or, refl, ap, ◌∙◌, arith}
+use Rattle.std.proofs.Common.{◌≡◌, ◌≢◌, ℕ, zero, suc, ◌+◌, ◌*◌, ◌<◌, ◌≤◌, inl, inr, ◌⊎◌, List, [], ◌∷◌, ◌++◌, length, get_or, refl, ap, ◌∙◌, arith}
 use Rattle.std.specs.List.{slice_set, flat_map}
 use Rattle.std.proofs.lemmas.Bool.{cases_eq}
 use Rattle.std.proofs.lemmas.List.{length-set, get_or-set_same, get_or-set_other}
@@ -7,7 +7,7 @@ use Rattle.std.proofs.lemmas.List.Sums.{sum_by-set}
 use Rattle.std.proofs.lemmas.List.Elements.{All-set}
 use Rattle.tc_units.specs.declared.units.Addr.{Addr}
 use Rattle.cpu_slab.specs.Slots.{SlabRow, CpuSlab, no_row, row_at, with_cap, with_row, with_slot, with_top}
-use Rattle.cpu_slab.specs.Growth.{cap_bytes, used}
+use Rattle.cpu_slab.specs.Growth.{used}
 use Rattle.cpu_slab.specs.Sound.{IsSoundRow, IsSoundSlab}
 
 -- rows after a write
@@ -25,8 +25,9 @@ pub row_slots : (slab : CpuSlab) (k : ℕ) → IsSoundSlab slab → k < length s
 row_slots slab k sound low = sound.slots k no_row low
 
 -- one row is written
-pub used_set : (rows : List SlabRow) (k : ℕ) (row : SlabRow) → k < length rows → used (slice_set rows k row) + cap_bytes (get_or rows k no_row) ≡ used rows + cap_bytes row
-used_set rows k row low = sum_by-set cap_bytes rows k row no_row low
+pub used_set : (rows : List SlabRow) (k : ℕ) (row : SlabRow) → k < length rows
+    → used (slice_set rows k row) + (get_or rows k no_row).cap * (get_or rows k no_row).size ≡ used rows + row.cap * row.size
+used_set rows k row low = sum_by-set (λ (r : SlabRow). r.cap * r.size) rows k row no_row low
 
 -- a row is written that keeps its capacity and size
 pub used_same : (rows : List SlabRow) (k : ℕ) (row : SlabRow) → k < length rows → row.cap ≡ (get_or rows k no_row).cap → row.size ≡ (get_or rows k no_row).size

@@ -1,5 +1,5 @@
 -- How a capacity is set, and when that is refused.
-use Rattle.std.specs.Prelude.{ℕ, nat_lt, Option, Some, None, if◌then◌else◌}
+use Rattle.std.specs.Prelude.{ℕ, nat_lt, Option, Some, None, is_some, if◌then◌else◌}
 use Rattle.cpu_slab.specs.declared.slab.CapFault.{CapFault}
 use Rattle.cpu_slab.specs.declared.slab.CapFault.TheVariants.{OverStatic, OverLimit}
 use Rattle.cpu_slab.specs.Slots.{CpuSlab, with_cap}
@@ -12,11 +12,6 @@ cap_fault slab k n =
     else if nat_lt slab.limit (used (with_cap slab k n).rows) then Some (OverLimit (used (with_cap slab k n).rows))
     else None
 
--- the slab with the capacity set, or as it was where there is a fault
-abbrev pub set_unless : Option CapFault → CpuSlab → ℕ → ℕ → CpuSlab
-set_unless None slab k n = with_cap slab k n
-set_unless (Some fault) slab k n = slab
-
--- the slab after the capacity of class k is set to n, or refused
+-- the slab after the capacity of class k is set to n, or as it was where that is refused
 abbrev pub with_cap_if : CpuSlab → ℕ → ℕ → CpuSlab
-with_cap_if slab k n = set_unless (cap_fault slab k n) slab k n
+with_cap_if slab k n = if is_some (cap_fault slab k n) then slab else with_cap slab k n

@@ -1,29 +1,17 @@
 -- How the capacity of a class grows, out of the budget or at the cost of another class.
-use Rattle.std.specs.Prelude.{◌≡◌, ◌≢◌, ℕ, ◌+◌, ◌-◌, ◌*◌, ◌<◌, ◌≤◌, ◌==◌, nat_lt, nat_le, List, [], ◌∷◌, length, map, sum_by, min, Option, Some, None, option_map, unwrap_or, slice_index, slice_set, if◌then◌else◌}
+use Rattle.std.specs.Prelude.{◌≡◌, ◌≢◌, ℕ, ◌+◌, ◌-◌, ◌*◌, ◌<◌, ◌≤◌, ◌==◌, nat_lt, nat_le, List, [], ◌∷◌, length, map, sum_by, min, Option, Some, None, option_map, option_and_then, unwrap_or, slice_index, slice_set, if◌then◌else◌}
 use Rattle.std.specs.List.{slice_index_or}
 use Rattle.std.specs.Int.{div_ceil}
 use Rattle.cpu_slab.specs.declared.marks.Unused.{Unused}
 use Rattle.cpu_slab.specs.Slots.{SlabRow, CpuSlab, no_row, row_at}
 
--- the bytes of a class's capacity
-abbrev pub cap_bytes : SlabRow → ℕ
-cap_bytes row = row.cap * row.size
-
 -- the bytes of all capacities
 abbrev pub used : List SlabRow → ℕ
-used rows = sum_by cap_bytes rows
+used rows = sum_by (λ (row : SlabRow). row.cap * row.size) rows
 
 -- by how much a class grows: a batch, or what is left of its slots
 abbrev pub rise : SlabRow → ℕ
 rise row = min row.batch (length row.slots - row.cap)
-
--- a class that has grown
-abbrev pub wider : SlabRow → SlabRow
-wider row = record row { cap = row.cap + rise row }
-
--- a class that has given up so many places
-abbrev pub narrower : SlabRow → ℕ → SlabRow
-narrower row s = record row { cap = row.cap - s }
 
 -- the bytes of a class's capacity above its top
 abbrev pub unused : SlabRow → ℕ
@@ -52,30 +40,24 @@ pub record IsVictim (k : ℕ) (ns : List ℕ) (best : Unused) : Type 0 where
 abbrev pub VictimsAreBest : Type 0
 VictimsAreBest = (k : ℕ) (ns : List ℕ) → ((best : Unused) → victim k 0 ns ≡ Some best → IsVictim k ns best) × (victim k 0 ns ≡ None → (j : ℕ) → j < length ns → j ≡ k)
 
--- the classes after one gave up so many places, or none where it has fewer unused
+-- the classes after class v gave up so many places, or none where it has fewer unused
 abbrev pub given_up : List SlabRow → ℕ → ℕ → Option (List SlabRow)
 given_up rows v s =
-    if nat_le s ((slice_index_or rows v no_row).cap - (slice_index_or rows v no_row).top) then Some (slice_set rows v (narrower (slice_index_or rows v no_row) s))
-    else None
+    let row = slice_index_or rows v no_row in
+    if nat_le s (row.cap - row.top) then Some (slice_set rows v (record row { cap = row.cap - s })) else None
 
--- the classes after the victim gave up what is short, in whole places, or none where there is no victim or it has less
-abbrev pub taken_from : List SlabRow → ℕ → Option Unused → Option (List SlabRow)
-taken_from rows short None = None
-taken_from rows short (Some best) = given_up rows best.class (div_ceil short (slice_index_or rows best.class no_row).size)
-
--- the classes once so many bytes are spare for class k: as they are, or else after the victim gave
-abbrev pub with_room : List SlabRow → ℕ → ℕ → ℕ → Option (List SlabRow)
-with_room rows k need spare =
-    if nat_le need spare then Some rows
-    else taken_from rows (need - spare) (victim k 0 (map unused rows))
+-- The classes once there is room for the growth of class k: as they are, or after the victim gave up what is short, in whole
+-- places. None where there is no victim, or it has less.
+abbrev pub roomy : CpuSlab → ℕ → ℕ → Option (List SlabRow)
+roomy slab k need =
+    let spare = slab.limit - used slab.rows in
+    if nat_le need spare then Some slab.rows
+    else option_and_then (λ (best : Unused). given_up slab.rows best.class (div_ceil (need - spare) (row_at slab best.class).size))
+    (victim k 0 (map unused slab.rows))
 
 -- the classes after class k has grown
 abbrev pub widened : ℕ → List SlabRow → List SlabRow
-widened k rows = slice_set rows k (wider (slice_index_or rows k no_row))
-
--- the classes once there is room for the growth of class k
-abbrev pub roomy : CpuSlab → ℕ → ℕ → Option (List SlabRow)
-roomy slab k need = with_room slab.rows k need (slab.limit - used slab.rows)
+widened k rows = let row = slice_index_or rows k no_row in slice_set rows k (record row { cap = row.cap + rise row })
 
 -- the classes after a growth of class k, or none where nothing grows
 abbrev pub growth : CpuSlab → ℕ → Option (List SlabRow)

@@ -12,11 +12,11 @@ use Rattle.heap_rules.specs.Heap.{Heap, Hugepage, hugepage, numbers, untouched, 
 use Rattle.heap_rules.specs.Numbered.{at_number}
 use Rattle.heap_rules.specs.Settle.{unbacked}
 use Rattle.heap_rules.specs.GiveUp.{gives_whole, SpareRow, gives_spare}
-use Rattle.heap_rules.specs.Release.{only_used, whole_given, spare_row, spare_rows, spare_given}
+use Rattle.heap_rules.specs.Release.{only_used, whole_given, spare_row, spare_given}
 use Rattle.range_bits.specs.Ranges.{used_count}
 use Rattle.range_bits.proofs.RangeLemmas.{range-within}
 use Rattle.tc_units.proofs.Counts.{one-true}
-use Rattle.heap_rules.proofs.Places.{at, at-next}
+use Rattle.heap_rules.proofs.Places.{at, at-next, spare_rows}
 
 -- a sum over the elements that pass
 pub sum-filter : {X : Type 0} (f : X → ℕ) (p : X → Bool) (xs : List X) → sum_by f (filter p xs) ≡ sum_by (λ x. cond (p x) (f x) 0) xs

@@ -10,7 +10,7 @@ use Rattle.std.proofs.lemmas.Bool.Decides.{nat_tests}
 use Rattle.tc_units.specs.declared.spans.Run.{Run}
 use Rattle.tc_units.specs.declared.rows.RowKind.{RowKind}
 use Rattle.tc_units.specs.declared.rows.RowKind.TheVariants as kind
-use Rattle.heap_rules.specs.Heap.{Heap, Hugepage, hugepage, reaches, is_used, is_region, is_kind_region, spans, used_from, region_row, holds}
+use Rattle.heap_rules.specs.Heap.{Heap, Hugepage, hugepage, reaches, is_used, is_region, is_kind, spans, used_from, region_row, holds}
 use Rattle.heap_rules.specs.Free.{left, used_regions, without_unused_regions, given_back}
 use Rattle.heap_rules.specs.Sound.{IsHugepageOf, HasNoUsed, LiesInRegion, Serves, IsRegion, AreRunsSound, IsSound}
 use Rattle.heap_rules.specs.Laws.{FreeLeaves}
@@ -70,7 +70,7 @@ module _ (heap : Heap) (sound : AreRunsSound heap) (places : (r : ℕ) → Conta
       false≢true (sym none ∙ there))
 
   -- what serves a region lies in one that is left
-  serves_kept : (h : ℕ) (x : Hugepage) (k : RowKind) → (is_kind_region k && not (stays h)) ≡ false → Serves heap.runs heap.regions width h x k → Serves heap.runs kept width h x k
+  serves_kept : (h : ℕ) (x : Hugepage) (k : RowKind) → (is_kind kind.Region k && not (stays h)) ≡ false → Serves heap.runs heap.regions width h x k → Serves heap.runs kept width h x k
   serves_kept h x k e s = grind (arith, Any-from_list_any, not-false)
 
   ended_each : AreRemade heap heap.runs kept change

@@ -11,16 +11,16 @@ use Rattle.tc_units.specs.declared.spans.Run.{Run}
 use Rattle.tc_units.specs.declared.rows.RowKind.{RowKind}
 use Rattle.tc_units.specs.declared.rows.RowKind.TheVariants as kind
 use Rattle.heap_rules.specs.Heap.{Heap, Hugepage, hugepage, numbers, backs, backed_count, is_used, is_free, is_filler, is_region, is_free_backed}
-use Rattle.heap_rules.specs.Heap.{is_kind_filler, is_kind_region, used_count, pages_of}
+use Rattle.heap_rules.specs.Heap.{is_kind, used_count, pages_of}
 use Rattle.heap_rules.specs.Numbered.{at_number}
 use Rattle.heap_rules.specs.Settle.{unbacked}
 use Rattle.heap_rules.specs.GiveUp.{gives_whole}
-use Rattle.heap_rules.specs.Release.{Released, whole_given, free_given, is_idle, idle_given, spare_pages, spare_row, spare_rows, spare_given, release, may_give, givable_pages}
+use Rattle.heap_rules.specs.Release.{Released, whole_given, free_given, is_idle, idle_given, spare_pages, spare_row, spare_given, release, may_give, givable_pages}
 use Rattle.heap_rules.specs.Sound.{IsHugepageOf, IsPageOf, HasNoUsed, IsBackedEvenly, IsFit, IsSound}
 use Rattle.heap_rules.specs.Laws.{ReleaseIsEnough}
 use Rattle.range_bits.proofs.RangeLemmas.{range-within}
 use Rattle.tc_units.proofs.Counts.{count_none}
-use Rattle.heap_rules.proofs.Places.{at, length-each, at-each, map-at, idle_at}
+use Rattle.heap_rules.proofs.Places.{at, length-each, at-each, map-at, idle_at, spare_rows}
 use Rattle.heap_rules.proofs.Fits.{serves_at, is_Free, is_Region}
 use Rattle.heap_rules.proofs.Accounts.{sum-filter, sum-adds, sum-map', self, own_backs, both, scaled, all_counted, same_sums}
 use Rattle.heap_rules.proofs.GiveUps as walk
@@ -121,11 +121,11 @@ whole_keeps flags heap n part same =
     grind (arith, nat_tests, part, length-each f heap.hugepages, same_sums, range-within 1 (length heap.hugepages), at-each f heap.hugepages, if_given, same)
 
 -- a hugepage that is no filler's, or no region's, has none of their parts
-no_spare : (runs : List Run) (h : ℕ) (x : Hugepage) (k : RowKind) → x.kind ≡ k → is_kind_filler k ≡ false → spare_part runs h (unbacked x) ≡ spare_part runs h x
-no_spare runs h x k e other = let none : is_filler x ≡ false = ap is_kind_filler e ∙ other in rw none refl
+no_spare : (runs : List Run) (h : ℕ) (x : Hugepage) (k : RowKind) → x.kind ≡ k → is_kind kind.Filler k ≡ false → spare_part runs h (unbacked x) ≡ spare_part runs h x
+no_spare runs h x k e other = let none : is_filler x ≡ false = ap (is_kind kind.Filler) e ∙ other in rw none refl
 
-no_idle : (runs : List Run) (h : ℕ) (x : Hugepage) (k : RowKind) → x.kind ≡ k → is_kind_region k ≡ false → idle_part runs h (unbacked x) ≡ idle_part runs h x
-no_idle runs h x k e other = let none : is_region x ≡ false = ap is_kind_region e ∙ other in rw none refl
+no_idle : (runs : List Run) (h : ℕ) (x : Hugepage) (k : RowKind) → x.kind ≡ k → is_kind kind.Region k ≡ false → idle_part runs h (unbacked x) ≡ idle_part runs h x
+no_idle runs h x k e other = let none : is_region x ≡ false = ap (is_kind kind.Region) e ∙ other in rw none refl
 
 free_kind : (heap : Heap) (h : ℕ) → 0 < h → h ≤ length heap.hugepages → at_number false (map is_free_backed heap.hugepages) h ≡ true → (hugepage heap h).kind ≡ kind.Free
 free_kind heap h from to flag = grind (arith, nat_tests, map-at, is_Free)

@@ -9,14 +9,14 @@ use Rattle.tc_units.specs.declared.spans.Run.{Run}
 use Rattle.tc_units.specs.declared.rows.RowKind.{RowKind}
 use Rattle.tc_units.specs.declared.rows.RowKind.TheVariants as kind
 use Rattle.range_bits.specs.Ranges.{best}
-use Rattle.heap_rules.specs.Heap.{Heap, Hugepage, hugepage, numbers, holds, is_used, is_filler, is_kind_filler, run_at, backs, used_from}
+use Rattle.heap_rules.specs.Heap.{Heap, Hugepage, hugepage, numbers, holds, is_used, is_filler, is_kind, run_at, backs, used_from}
 use Rattle.heap_rules.specs.FillerRows.{FillerRow, has_room}
-use Rattle.heap_rules.specs.Choice.{filler_row, filler_rows}
+use Rattle.heap_rules.specs.Choice.{filler_rows}
 use Rattle.heap_rules.specs.New.{placed, more_backed}
 use Rattle.heap_rules.specs.Sound.{IsFit, IsSound}
 use Rattle.heap_rules.specs.Laws.{IsGiven}
 use Rattle.range_bits.proofs.RangeLemmas.{range-within, best-at, free_fits, free_at}
-use Rattle.heap_rules.proofs.Places.{backs-map}
+use Rattle.heap_rules.proofs.Places.{backs-map, filler_row}
 use Rattle.heap_rules.proofs.Fits.{holds_parts, reaches_parts, used_more, serves_at}
 use Rattle.heap_rules.proofs.Grown.{IsTurned}
 use Rattle.heap_rules.proofs.Routes.{given_by}
@@ -39,7 +39,7 @@ unused_at runs first many n s some e =
           sym (get_or-map-range_with_len (is_used runs) first many (s + k) p true (omega arith) (omega arith)) ∙ free_at row s n k true is.1 (omega arith));
     }
 
-pub is_Filler : (k : RowKind) → is_kind_filler k ≡ true → k ≡ kind.Filler
+pub is_Filler : (k : RowKind) → is_kind kind.Filler k ≡ true → k ≡ kind.Filler
 is_Filler kind.Filler e = refl
 is_Filler k e = absurd (false≢true e)
 

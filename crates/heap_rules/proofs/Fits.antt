@@ -5,7 +5,7 @@ use Rattle.tc_units.specs.declared.spans.Run.{Run}
 use Rattle.tc_units.specs.declared.rows.RowKind.{RowKind}
 use Rattle.tc_units.specs.declared.rows.RowKind.TheVariants as kind
 use Rattle.tc_units.proofs.SortedFacts.{Contains-old}
-use Rattle.heap_rules.specs.Heap.{Hugepage, holds, run_at, with_run, reaches, spans, is_kind_region, is_kind_free}
+use Rattle.heap_rules.specs.Heap.{Hugepage, holds, run_at, with_run, reaches, spans, is_kind}
 use Rattle.heap_rules.specs.Sound.{IsPageOf, HasUsed, HasOneRun, Serves, IsFit}
 use Rattle.heap_rules.proofs.Live.{used_with_old, unused_with}
 
@@ -60,10 +60,10 @@ fit_more run runs regions width h x e fit = record { size = fit.size; serves = s
 pub serves_at : (runs : List Run) (regions : List ℕ) (width h : ℕ) (x : Hugepage) (k : RowKind) → x.kind ≡ k → IsFit runs regions width h x → Serves runs regions width h x k
 serves_at runs regions width h x k e fit = subst (λ j. Serves runs regions width h x j) e fit.serves
 
-pub is_Free : (k : RowKind) → is_kind_free k ≡ true → k ≡ kind.Free
+pub is_Free : (k : RowKind) → is_kind kind.Free k ≡ true → k ≡ kind.Free
 is_Free kind.Free e = refl
 is_Free k e = absurd (false≢true e)
 
-pub is_Region : (k : RowKind) → is_kind_region k ≡ true → k ≡ kind.Region
+pub is_Region : (k : RowKind) → is_kind kind.Region k ≡ true → k ≡ kind.Region
 is_Region kind.Region e = refl
 is_Region k e = absurd (false≢true e)

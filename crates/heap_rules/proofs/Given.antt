@@ -1,6 +1,6 @@
 -- A new run: what it gives, and that it gives none exactly where none fits.
-use Rattle.std.proofs.Common.{◌≡◌, ℕ, ◌+◌, ◌-◌, ◌*◌, ◌<◌, ◌≤◌, Bool, true, false, not, ◌&&◌, ◌||◌, cond, nat_lt, List, [], get_or, filter}
-use Rattle.std.proofs.Common.{All, Contains, Option, Some, None, IfSome, option_map, refl, sym, ap, subst, ◌∙◌, inl, inr, arith}
+use Rattle.std.proofs.Common.{◌≡◌, ℕ, ◌+◌, ◌-◌, ◌*◌, ◌<◌, ◌≤◌, Bool, true, false, not, ◌&&◌, ◌||◌, cond, nat_lt, nat_le, List, [], get_or, filter}
+use Rattle.std.proofs.Common.{All, Contains, Option, Some, None, IfSome, option_map, option_and_then, refl, sym, ap, subst, ◌∙◌, inl, inr, arith}
 use Rattle.std.specs.Prelude.{MatchOption}
 use Rattle.std.specs.List.{list_all}
 use Rattle.std.specs.Option.{option_or}
@@ -13,18 +13,19 @@ use Rattle.std.proofs.lemmas.List.Folds.{list_all_at}
 use Rattle.std.proofs.lemmas.Bool.Decides.{nat_tests}
 use Rattle.range_bits.specs.Ranges.{best, longest, first_least}
 use Rattle.heap_rules.specs.Heap.{Heap, untouched, is_free, used_row, region_row}
-use Rattle.heap_rules.specs.FillerRows.{FillerRow, place_in_row}
+use Rattle.heap_rules.specs.FillerRows.{FillerRow}
 use Rattle.heap_rules.specs.FillerRows as filler
-use Rattle.heap_rules.specs.RegionRows.{RegionRow, place_in_region, region_place}
+use Rattle.heap_rules.specs.RegionRows.{RegionRow}
 use Rattle.heap_rules.specs.RegionRows as regions
-use Rattle.heap_rules.specs.Choice.{filler_rows, run_choice, taken_row, region_row_of, region_rows, hugepages_for}
-use Rattle.heap_rules.specs.New.{Placed, in_filler, in_fresh, by_filler, new_small, in_free, new_whole, in_region, in_new_region}
-use Rattle.heap_rules.specs.New.{new_beside_regions, by_regions, suits_region, new_unsettled, settled_placed, none_fits}
+use Rattle.heap_rules.specs.Choice.{filler_rows, run_choice, taken_row, region_rows, hugepages_for}
+use Rattle.heap_rules.specs.New.{Placed, placed, run_or_tail, in_filler, in_fresh, new_small, new_whole, in_region, in_new_region, slack}
+use Rattle.heap_rules.specs.New.{by_regions, suits_region, new_unsettled, none_fits}
+use Rattle.heap_rules.specs.Settle.{settled}
 use Rattle.heap_rules.specs.Sound.{IsRegion, IsSound}
 use Rattle.heap_rules.specs.Laws.{IsGiven, NewGives}
 use Rattle.range_bits.proofs.RangeLemmas.{first_least-all, first_least-none, filter-some}
 use Rattle.range_bits.proofs.RangeFacts.{best_there}
-use Rattle.heap_rules.proofs.Places.{at-place, map-place}
+use Rattle.heap_rules.proofs.Places.{at-place, map-place, region_row_of}
 use Rattle.heap_rules.proofs.Chosen.{AreFree, run_choice_free, run_choice_none}
 use Rattle.heap_rules.proofs.Fillers.{IsRowWithRoom, rows_fit, unused_at, given_filler}
 use Rattle.heap_rules.proofs.Regions.{given_region, given_new_region}
@@ -96,7 +97,7 @@ module _ (heap : Heap) (n : ℕ) (sound : IsSound heap) (some : 0 < n) where
       )
 
   small_own : (row : FillerRow) → IsRowWithRoom heap n row → (o : Option ℕ) → best row.used n ≡ o
-      → IsAnswer heap n (none_small heap n) (by_filler heap n (option_map (λ start. 256 * row.number + start) o))
+      → IsAnswer heap n (none_small heap n) (option_or (option_map (in_filler heap n) (option_map (λ start. 256 * row.number + start) o)) (option_map (in_fresh heap n) (run_choice heap 1)))
   small_own row is None e = grind (arith, nat_tests, best_there row.used n some (leb-true n (longest row.used) is.room), none-some)
   small_own row is (Some s) e =
       let h = is.number in
@@ -107,7 +108,8 @@ module _ (heap : Heap) (n : ℕ) (sound : IsSound heap) (some : 0 < n) where
         and_left _ _ (list_all_at (λ r. not (filler.has_room n r)) (filler_rows heap) is.known.0 row is.known.1 (ap (λ r. not (filler.has_room n r)) is.known.2 ∙ not_from_true _ is.room)),
       )
 
-  small_by : n < 256 → (o : Option FillerRow) → first_least filler.is_preferred fillers ≡ o → IfSome o (IsRowWithRoom heap n) → IsAnswer heap n (none_small heap n) (by_filler heap n (place_in_row n o))
+  small_by : n < 256 → (o : Option FillerRow) → first_least filler.is_preferred fillers ≡ o → IfSome o (IsRowWithRoom heap n) → IsAnswer heap n (none_small heap n)
+      (option_or (option_map (in_filler heap n) (option_and_then (λ (row : FillerRow). option_map (λ start. 256 * row.number + start) (best row.used n)) o)) (option_map (in_fresh heap n) (run_choice heap 1)))
   small_by small None e is = small_fresh small (run_choice heap 1) refl (none_pass (filler.has_room n) (filler_rows heap) (first_least-none filler.is_preferred fillers e))
   small_by small (Some row) e is = small_own row is (best row.used n) refl
 
@@ -125,7 +127,7 @@ module _ (heap : Heap) (n : ℕ) (sound : IsSound heap) (some : 0 < n) where
   abbrev none_long : Bool
   none_long = nat_lt (longest (taken_row heap)) (hugepages_for n)
 
-  whole_by : (other : Bool) → other ≡ true → (o : Option ℕ) → run_choice heap (hugepages_for n) ≡ o → IsAnswer heap n (none_long && other) (option_map (in_free heap n) o)
+  whole_by : (other : Bool) → other ≡ true → (o : Option ℕ) → run_choice heap (hugepages_for n) ≡ o → IsAnswer heap n (none_long && other) (option_map (λ h. placed heap (256 * h) n (λ k _. run_or_tail (256 * h + n) k)) o)
   whole_by other t None e = and_from _ _ (lt-ltb (longest (taken_row heap)) (hugepages_for n) (run_choice_none heap (hugepages_for n) (omega arith) e)) t
   whole_by other t (Some h) e =
       let are = run_choice_free heap (hugepages_for n) h (omega arith) e in (
@@ -145,8 +147,9 @@ module _ (heap : Heap) (n : ℕ) (sound : IsSound heap) (some : 0 < n) where
   abbrev with_room : List RegionRow
   with_room = filter (regions.has_room n) (region_rows heap)
 
-  abbrev in_regions : Option Placed
-  in_regions = by_regions heap n (region_place (region_rows heap) n)
+  -- a new region, or else whole hugepages
+  abbrev in_new : Option Placed
+  in_new = option_or (cond (nat_le heap.config.slack (slack heap n)) (option_map (in_new_region heap n) (run_choice heap heap.config.region)) None) (new_whole heap n)
 
   module _ (wide : 2 ≤ heap.config.region) (fits' : n ≤ 256 * heap.config.region) where
     new_region_by : no_region ≡ true → (o : Option ℕ) → run_choice heap heap.config.region ≡ o → IsAnswer heap n none_beside (option_or (option_map (in_new_region heap n) o) (new_whole heap n))
@@ -154,12 +157,12 @@ module _ (heap : Heap) (n : ℕ) (sound : IsSound heap) (some : 0 < n) where
     new_region_by t (Some r) e =
         grind (arith, nat_tests, run_choice_free heap heap.config.region r, free_long r heap.config.region, given_new_region heap r sound, and_left)
 
-    given_beside : no_region ≡ true → IsAnswer heap n none_beside (new_beside_regions heap n)
+    given_beside : no_region ≡ true → IsAnswer heap n none_beside in_new
     given_beside t = grind (arith, given_whole, new_region_by)
 
     -- what the choice of a region gives
     own_by : (row : RegionRow) → IsRegionWithRoom heap n row → (o : Option ℕ) → best row.used n ≡ o
-        → IsAnswer heap n none_beside (by_regions heap n (option_map (λ start. 256 * row.first + start) o))
+        → IsAnswer heap n none_beside (option_or (option_map (in_region heap n) (option_map (λ start. 256 * row.first + start) o)) in_new)
     own_by row is None e = grind (arith, nat_tests, best_there row.used n some (leb-true n (longest row.used) is.room), none-some)
     own_by row is (Some s) e =
         let r = is.number in
@@ -170,16 +173,17 @@ module _ (heap : Heap) (n : ℕ) (sound : IsSound heap) (some : 0 < n) where
           and_right _ _ (list_all_at (λ x. not (regions.has_room n x)) (region_rows heap) is.known.0 row is.known.1 (ap (λ x. not (regions.has_room n x)) is.known.2 ∙ not_from_true _ is.room)),
         )
 
-    region_by : (o : Option RegionRow) → first_least regions.is_preferred with_room ≡ o → IfSome o (IsRegionWithRoom heap n) → IsAnswer heap n none_beside (by_regions heap n (place_in_region n o))
+    region_by : (o : Option RegionRow) → first_least regions.is_preferred with_room ≡ o → IfSome o (IsRegionWithRoom heap n)
+        → IsAnswer heap n none_beside (option_or (option_map (in_region heap n) (option_and_then (λ (row : RegionRow). option_map (λ start. 256 * row.first + start) (best row.used n)) o)) in_new)
     region_by None e is = given_beside (none_pass (regions.has_room n) (region_rows heap) (first_least-none regions.is_preferred with_room e))
     region_by (Some row) e is = own_by row is (best row.used n) refl
 
-    given_by_regions : IsAnswer heap n none_beside in_regions
+    given_by_regions : IsAnswer heap n none_beside (by_regions heap n)
     given_by_regions =
         region_by (first_least regions.is_preferred with_room) refl (first_least-all (IsRegionWithRoom heap n) regions.is_preferred with_room (regions_fit heap n sound))
 
   abbrev IsLarge : Bool → Type 0
-  IsLarge b = IsAnswer heap n (none_long && (not b || no_region)) (cond b in_regions (new_whole heap n))
+  IsLarge b = IsAnswer heap n (none_long && (not b || no_region)) (cond b (by_regions heap n) (new_whole heap n))
 
   given_large : 2 ≤ heap.config.region → IsLarge (suits_region heap.config n)
   given_large wide = grind (arith, and_parts, cases_Bool, given_by_regions, given_whole, leb-true)
@@ -188,9 +192,9 @@ module _ (heap : Heap) (n : ℕ) (sound : IsSound heap) (some : 0 < n) where
   given_unsettled wide = grind (arith, cases_lt, given_large, given_small, le-ltb, lt-ltb)
 
 -- settling changes no run
-given_settled : (heap : Heap) (n : ℕ) (none : Bool) (o : Option Placed) → IsAnswer heap n none o → IsAnswer heap n none (option_map settled_placed o)
+given_settled : (heap : Heap) (n : ℕ) (none : Bool) (o : Option Placed) → IsAnswer heap n none o → IsAnswer heap n none (option_map (λ (p : Placed). record p { heap = settled p.heap }) o)
 given_settled heap n none None is = is
-given_settled heap n none (Some p) is = grind (arith, settled_sound)
+given_settled heap n none (Some p) is = (record { pages = is.0.pages; inside = is.0.inside; unused = is.0.unused; runs = is.0.runs; config = is.0.config; sound = settled_sound p.heap is.0.sound }, is.1)
 
 pub new_gives : NewGives
 new_gives heap n sound wide some = given_settled heap n (none_fits heap n) (new_unsettled heap n) (given_unsettled heap n sound some wide)

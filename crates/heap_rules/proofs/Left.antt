@@ -10,7 +10,7 @@ use Rattle.std.proofs.lemmas.Bool.Decides.{nat_tests}
 use Rattle.tc_units.specs.declared.spans.Run.{Run}
 use Rattle.tc_units.specs.declared.rows.RowKind.{RowKind}
 use Rattle.tc_units.specs.declared.rows.RowKind.TheVariants as kind
-use Rattle.heap_rules.specs.Heap.{Heap, Hugepage, hugepage, holds, is_used, is_region, is_kind_region, without_run, reaches, allocation_count, spans}
+use Rattle.heap_rules.specs.Heap.{Heap, Hugepage, hugepage, holds, is_used, is_region, is_kind, without_run, reaches, allocation_count, spans}
 use Rattle.heap_rules.specs.Free.{emptied, left_by, left}
 use Rattle.heap_rules.specs.Sound.{IsInside, HasNoUsed, HasUsed, HasOneRun, Serves, IsFit, IsRegion, AreRunsSound, IsSound}
 use Rattle.tc_units.proofs.Counts.{count-cons, count_some, count_le, any_is_count, one-true, one-false}
@@ -172,8 +172,8 @@ module _ (heap : Heap) (run : Run) (sound : IsSound heap) (live : Contains heap.
   left_runs = remade_sound heap rest heap.regions (λ h x. cond (reaches h run) (left_by x.kind rest h x) x) heap.counts sound.runs fewer sound.runs.apart left_each
 
   -- a region's hugepage stays of the region
-  region_left : (h : ℕ) (x : Hugepage) (k : RowKind) → x.kind ≡ k → is_kind_region k ≡ true → is_region (left_by k rest h x) ≡ true
-  region_left h x kind.Region k e = ap is_kind_region k
+  region_left : (h : ℕ) (x : Hugepage) (k : RowKind) → x.kind ≡ k → is_kind kind.Region k ≡ true → is_region (left_by k rest h x) ≡ true
+  region_left h x kind.Region k e = ap (is_kind kind.Region) k
   region_left h x j k e = absurd (false≢true e)
 
   pub left_kinds : (r : ℕ) → IsRegion heap r → (h : ℕ) → spans width h r ≡ true → is_region (hugepage (left heap run) h) ≡ true

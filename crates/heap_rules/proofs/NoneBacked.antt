@@ -15,10 +15,10 @@ use Rattle.heap_rules.specs.Heap.{Heap, Hugepage, hugepage, each, backs, is_used
 use Rattle.heap_rules.specs.Settle.{unbacked, settled}
 use Rattle.heap_rules.specs.GiveUp.{gives_spare}
 use Rattle.heap_rules.specs.Free.{emptied, left_by, left, without_unused_regions, freed}
-use Rattle.heap_rules.specs.Release.{Released, whole_given, free_given, is_idle, idle_given, spare_row, spare_rows, only_used, spare_given, release}
+use Rattle.heap_rules.specs.Release.{Released, whole_given, free_given, is_idle, idle_given, spare_row, only_used, spare_given, release}
 use Rattle.heap_rules.specs.Sound.{Serves, IsSound}
 use Rattle.heap_rules.specs.Laws.{BacksNone}
-use Rattle.heap_rules.proofs.Places.{at, at-place, length-each, at-each, backs-whole}
+use Rattle.heap_rules.proofs.Places.{at, at-place, length-each, at-each, backs-whole, spare_rows}
 
 -- a hugepage that backs no page more than another
 abbrev Unbacks : Hugepage → Hugepage → Type 0

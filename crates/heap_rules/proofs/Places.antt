@@ -1,13 +1,26 @@
 -- A change of each hugepage, place by place.
-use Rattle.std.proofs.Common.{◌≡◌, ℕ, ◌+◌, ◌-◌, ◌*◌, ◌/◌, ◌%◌, ◌<◌, ◌≤◌, Bool, false, List, length, get_or, map, sym, ap, ◌∙◌, arith}
+use Rattle.std.proofs.Common.{◌≡◌, ℕ, ◌+◌, ◌-◌, ◌*◌, ◌/◌, ◌%◌, ◌<◌, ◌≤◌, Bool, false, List, length, get_or, map, filter, sym, ap, ◌∙◌, arith}
 use Rattle.std.specs.List.{enumerate_from}
 use Rattle.std.proofs.lemmas.List.{same_lists, get_or_default, length-map, get_or-map, get_or-replicate}
 use Rattle.std.proofs.lemmas.List.FromFn.{length-enumerate_from, get_or-enumerate_from, get_or-map-range_with_len}
-use Rattle.heap_rules.specs.Heap.{Heap, Hugepage, numbers, untouched, each, whole, pages_of}
+use Rattle.heap_rules.specs.Heap.{Heap, Hugepage, hugepage, numbers, untouched, each, whole, pages_of, is_filler, tier, allocation_count, used_row, region_row}
+use Rattle.heap_rules.specs.FillerRows.{FillerRow}
+use Rattle.heap_rules.specs.RegionRows.{RegionRow}
 use Rattle.heap_rules.specs.Numbered.{at_number}
-use Rattle.heap_rules.specs.Release.{is_idle}
+use Rattle.heap_rules.specs.GiveUp.{SpareRow}
+use Rattle.heap_rules.specs.Release.{is_idle, spare_row}
 use Rattle.heap_rules.specs.Sound.{IsPageOf}
 use Rattle.heap_rules.proofs.Numbered.{at_number-place, at_number-next}
+
+-- a row of the filler, one of the regions, and the filler's rows as they give pages up
+abbrev pub filler_row : Heap → ℕ → FillerRow
+filler_row heap h = record { number = h; tier = tier (hugepage heap h); allocs = allocation_count heap.runs h; used = used_row heap.runs h }
+
+abbrev pub region_row_of : Heap → ℕ → RegionRow
+region_row_of heap r = record { first = r; used = region_row heap.runs heap.config.region r }
+
+abbrev pub spare_rows : Heap → List SpareRow
+spare_rows heap = map (spare_row heap) (filter (λ h. is_filler (hugepage heap h)) (numbers heap))
 
 -- hugepage h of a list, as a heap has it; from 1 on it is what stands at place h - 1
 abbrev pub at : List Hugepage → ℕ → Hugepage

@@ -9,10 +9,11 @@ use Rattle.tc_units.specs.declared.spans.Run.{Run}
 use Rattle.tc_units.specs.declared.rows.RowKind.{RowKind}
 use Rattle.tc_units.specs.declared.rows.RowKind.TheVariants as kind
 use Rattle.heap_rules.specs.Heap.{Heap, Hugepage, hugepage, backs, holds, is_used, is_free, is_region, with_run, run_at, spans}
-use Rattle.heap_rules.specs.New.{placed, all_backed, region_page, with_region, with_new_region, in_new_region}
+use Rattle.heap_rules.specs.New.{placed, all_backed, region_page, with_new_region, in_new_region}
 use Rattle.heap_rules.specs.Sound.{IsInside, IsHugepageOf, LiesInRegion, Serves, IsFit, IsRegion, AreRunsSound, IsSound}
 use Rattle.heap_rules.specs.Laws.{IsGiven}
 use Rattle.tc_units.proofs.Counts.{any_is_count}
+use Rattle.tc_units.specs.Sorted.{with_item}
 use Rattle.tc_units.proofs.SortedFacts.{count-with_item, All-with_item, Contains-new, Contains-old}
 use Rattle.heap_rules.proofs.Places.{length-each, at-each, backs-whole}
 use Rattle.heap_rules.proofs.Live.{used_with_new}
@@ -49,11 +50,11 @@ given_region heap n r s sound some is are =
     turned_region heap run k (hugepage heap k) (is.kinds k (spans_from heap.config.region k r (omega arith) (omega (arith, are.to)))) (sound.runs.fit k in_arena))
 
 -- In a new region.
-lies_more : (r : ℕ) (regions : List ℕ) (width h : ℕ) → LiesInRegion regions width h → LiesInRegion (with_region r regions) width h
+lies_more : (r : ℕ) (regions : List ℕ) (width h : ℕ) → LiesInRegion regions width h → LiesInRegion (with_item (λ k. k) r regions) width h
 lies_more r regions width h lies = record { region = lies.region; known = Contains-old (λ (k : ℕ). k) r regions lies.region lies.known; spanned = lies.spanned }
 
 serves_region_more : (runs : List Run) (r : ℕ) (regions : List ℕ) (width h : ℕ) (x : Hugepage) (k : RowKind)
-    → Serves runs regions width h x k → Serves runs (with_region r regions) width h x k
+    → Serves runs regions width h x k → Serves runs (with_item (λ k. k) r regions) width h x k
 serves_region_more runs r regions width h x kind.Region s = (lies_more r regions width h s.0, s.1)
 serves_region_more runs r regions width h x k s = s
 
@@ -87,7 +88,7 @@ module _ (heap : Heap) (r : ℕ) (sound : IsSound heap) (are : AreFree heap r he
         absurd (free_not_region (hugepage heap h) (free_at_span h e) (region.kinds h any.4)))
   ]
 
-  fit_inner : (h : ℕ) → IsHugepageOf heap.config.huge h → spans width h r ≡ true → IsFit heap.runs (with_region r heap.regions) width h (region_page (hugepage heap h))
+  fit_inner : (h : ℕ) → IsHugepageOf heap.config.huge h → spans width h r ≡ true → IsFit heap.runs (with_item (λ k. k) r heap.regions) width h (region_page (hugepage heap h))
   fit_inner h is e =
       let fit = sound.runs.fit h is in
       let free = serves_at heap.runs heap.regions width h (hugepage heap h) kind.Free (is_Free (hugepage heap h).kind (free_at_span h e)) fit in
@@ -97,7 +98,7 @@ module _ (heap : Heap) (r : ℕ) (sound : IsSound heap) (are : AreFree heap r he
         donated = λ d. absurd (false≢true d);
       }
 
-  fit_outer : (h : ℕ) (x : Hugepage) → IsFit heap.runs heap.regions width h x → IsFit heap.runs (with_region r heap.regions) width h x
+  fit_outer : (h : ℕ) (x : Hugepage) → IsFit heap.runs heap.regions width h x → IsFit heap.runs (with_item (λ k. k) r heap.regions) width h x
   fit_outer h x fit = record { size = fit.size; serves = serves_region_more heap.runs r heap.regions width h x x.kind fit.serves; donated = fit.donated }
 
   pub runs_sound : AreRunsSound with_it
@@ -106,7 +107,7 @@ module _ (heap : Heap) (r : ℕ) (sound : IsSound heap) (are : AreFree heap r he
     disjoint = sound.runs.disjoint;
     inside = sound.runs.inside;
     backed = λ p e. by_span (λ x. backs x p ≡ true) (p / 256) (used_in heap.config.huge p heap.runs sound.runs.inside e) (λ t. sound.runs.backed p e) (λ f. sound.runs.backed p e);
-    fit = λ h is. by_span (λ x. IsFit heap.runs (with_region r heap.regions) width h x) h is (λ t. fit_inner h is t) (λ f. fit_outer h (hugepage heap h) (sound.runs.fit h is));
+    fit = λ h is. by_span (λ x. IsFit heap.runs (with_item (λ k. k) r heap.regions) width h x) h is (λ t. fit_inner h is t) (λ f. fit_outer h (hugepage heap h) (sound.runs.fit h is));
     apart = λ h. most_one (spans width h r) (count_by (spans width h) heap.regions) _ (sound.runs.apart h) (none_before h) (count-with_item (λ (k : ℕ). k) (spans width h) r heap.regions);
   }
 

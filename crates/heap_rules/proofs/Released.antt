@@ -12,11 +12,11 @@ use Rattle.heap_rules.specs.Heap.{Heap, Hugepage, hugepage, numbers, backed_coun
 use Rattle.heap_rules.specs.Numbered.{at_number}
 use Rattle.heap_rules.specs.Settle.{unbacked}
 use Rattle.heap_rules.specs.GiveUp.{gives_whole, gives_spare}
-use Rattle.heap_rules.specs.Release.{Released, whole_given, free_given, is_idle, idle_given, spare_row, spare_rows, only_used, spare_given, release}
+use Rattle.heap_rules.specs.Release.{Released, whole_given, free_given, is_idle, idle_given, spare_row, only_used, spare_given, release}
 use Rattle.heap_rules.specs.Sound.{IsHugepageOf, HasNoUsed, IsFit, IsSound}
 use Rattle.heap_rules.specs.Laws.{ReleaseKeeps}
 use Rattle.tc_units.proofs.Counts.{count_some}
-use Rattle.heap_rules.proofs.Places.{backs-map, map-at, idle_at}
+use Rattle.heap_rules.proofs.Places.{backs-map, map-at, idle_at, spare_rows}
 use Rattle.heap_rules.proofs.Fits.{serves_at, is_Region}
 use Rattle.heap_rules.proofs.Accounts.{all_counted, whole_counts, spare_counts}
 use Rattle.heap_rules.proofs.Fillers.{is_Filler}

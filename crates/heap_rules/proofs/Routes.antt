@@ -5,8 +5,8 @@ use Rattle.std.proofs.lemmas.List.{length-replicate}
 use Rattle.tc_units.specs.declared.spans.Run.{Run}
 use Rattle.tc_units.specs.declared.rows.RowKind.TheVariants as kind
 use Rattle.tc_units.proofs.SortedFacts.{Contains-new}
-use Rattle.heap_rules.specs.Heap.{Heap, Hugepage, hugepage, holds, is_used, is_free, is_region, is_kind_region, run_at, reaches}
-use Rattle.heap_rules.specs.New.{placed, filler_page, run_page, run_or_tail, in_free, in_fresh}
+use Rattle.heap_rules.specs.Heap.{Heap, Hugepage, hugepage, holds, is_used, is_free, is_region, is_kind, run_at, reaches}
+use Rattle.heap_rules.specs.New.{placed, filler_page, run_page, run_or_tail, in_fresh}
 use Rattle.heap_rules.specs.Sound.{IsInside, IsPageOf, IsHugepageOf, AreRunsSound, IsSound}
 use Rattle.heap_rules.specs.Laws.{IsGiven}
 use Rattle.heap_rules.proofs.Places.{backs-whole, page_of}
@@ -21,7 +21,7 @@ pub given_by : (heap : Heap) (page n : ℕ) (becomes : ℕ → Hugepage → Huge
 given_by heap page n becomes sound inside unused turned = grind (arith, grown_sound heap page n becomes sound inside unused turned)
 
 pub free_not_region : (x : Hugepage) → is_free x ≡ true → is_region x ≡ true → ⊥
-free_not_region x free region = false≢true (sym (ap is_kind_region (is_Free x.kind free)) ∙ region)
+free_not_region x free region = false≢true (sym (ap (is_kind kind.Region) (is_Free x.kind free)) ∙ region)
 
 -- a free hugepage that becomes the filler's, or a run's alone
 turned_filler : (heap : Heap) (run : Run) (h page : ℕ) (donated : Bool) (x : Hugepage) → is_free x ≡ true → IsPageOf h page → holds page run ≡ true
@@ -64,7 +64,7 @@ module _ (heap : Heap) (n h m : ℕ) (sound : IsSound heap) (some : 0 < n) (fits
             (turned_run heap (run_at (256 * h) n) k (hugepage heap k) free (omega arith) (omega arith))
       ]
 
-  pub given_free : IsGiven heap n (in_free heap n h)
+  pub given_free : IsGiven heap n (placed heap (256 * h) n (λ k _. run_or_tail (256 * h + n) k))
   given_free = given_by heap (256 * h) n (λ k _. run_or_tail (256 * h + n) k) sound inside_free unused_free turned_free
 
   -- a free hugepage for the filler

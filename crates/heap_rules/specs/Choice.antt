@@ -7,11 +7,10 @@ use Rattle.heap_rules.specs.CacheFlags as cache
 use Rattle.heap_rules.specs.RegionRows.{RegionRow}
 
 -- the filler's rows
-abbrev pub filler_row : Heap → ℕ → FillerRow
-filler_row heap h = record { number = h; tier = tier (hugepage heap h); allocs = allocation_count heap.runs h; used = used_row heap.runs h }
-
 abbrev pub filler_rows : Heap → List FillerRow
-filler_rows heap = map (filler_row heap) (filter (λ h. is_filler (hugepage heap h)) (numbers heap))
+filler_rows heap =
+    let row : ℕ → FillerRow = λ h. record { number = h; tier = tier (hugepage heap h); allocs = allocation_count heap.runs h; used = used_row heap.runs h } in
+    map row (filter (λ h. is_filler (hugepage heap h)) (numbers heap))
 
 -- whether each hugepage isn't free, and isn't free and backed
 abbrev pub taken_row : Heap → List Bool
@@ -24,11 +23,8 @@ abbrev pub run_choice : Heap → ℕ → Option ℕ
 run_choice heap many = cache.run_choice (taken_row heap) (unready_row heap) many
 
 -- the regions' rows
-abbrev pub region_row_of : Heap → ℕ → RegionRow
-region_row_of heap r = record { first = r; used = region_row heap.runs heap.config.region r }
-
 abbrev pub region_rows : Heap → List RegionRow
-region_rows heap = map (region_row_of heap) heap.regions
+region_rows heap = map (λ r. record { first = r; used = region_row heap.runs heap.config.region r }) heap.regions
 
 -- the hugepages that n pages need
 abbrev pub hugepages_for : ℕ → ℕ

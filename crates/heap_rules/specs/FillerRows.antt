@@ -1,5 +1,5 @@
 -- (huge_filler) The filler's choice, over a list of rows.
-use Rattle.std.specs.Prelude.{ℕ, ◌+◌, ◌*◌, Bool, nat_le, List, filter, Option, Some, None, option_map}
+use Rattle.std.specs.Prelude.{ℕ, ◌+◌, ◌*◌, Bool, nat_le, List, filter, Option, option_map, option_and_then}
 use Rattle.std.specs.Ordering.{nat_cmp, ordering_then, is_lt}
 use Rattle.tc_units.specs.Units.{huge_pages}
 use Rattle.range_bits.specs.Ranges.{best, longest, first_least}
@@ -20,9 +20,7 @@ abbrev pub has_room : ℕ → FillerRow → Bool
 has_room n row = nat_le n (longest row.used)
 
 -- the first page for n pages: in the preferred row with room, at the start of its shortest maximal unused range that is long enough
-abbrev pub place_in_row : ℕ → Option FillerRow → Option ℕ
-place_in_row n None = None
-place_in_row n (Some row) = option_map (λ start. huge_pages * row.number + start) (best row.used n)
-
 abbrev pub filler_place : List FillerRow → ℕ → Option ℕ
-filler_place rows n = place_in_row n (first_least is_preferred (filter (has_room n) rows))
+filler_place rows n =
+    let chosen = first_least is_preferred (filter (has_room n) rows) in
+    option_and_then (λ (row : FillerRow). option_map (λ start. huge_pages * row.number + start) (best row.used n)) chosen

@@ -16,23 +16,24 @@ emptied x = record { kind = kind.Free; donated = false; backed = whole (list_all
 abbrev pub left_by : RowKind → List Run → ℕ → Hugepage → Hugepage
 left_by kind.Filler runs h x = if allocation_count runs h == 0 then emptied x else x
 left_by kind.Run runs h x = record { kind = kind.Free; donated = false; backed = whole true }
-left_by kind.Region runs h x = x
-left_by kind.Free runs h x = x
+left_by other runs h x = x
 
 -- the heap after a run has left each hugepage that it reached
 abbrev pub left : Heap → Run → Heap
-left heap run =
-    let runs = without_run run heap.runs in
-    record heap { runs = runs; hugepages = each (λ h x. if reaches h run then left_by x.kind runs h x else x) heap.hugepages }
+left heap run = record heap {
+  runs = without_run run heap.runs;
+  hugepages = each (λ h x. if reaches h run then left_by x.kind (without_run run heap.runs) h x else x) heap.hugepages;
+}
 
 -- the regions with a used page, and the heap without the others, whose hugepages become free with their backing
 abbrev pub used_regions : Heap → List ℕ
 used_regions heap = filter (λ r. list_any (λ b. b) (region_row heap.runs heap.config.region r)) heap.regions
 
 abbrev pub without_unused_regions : Heap → Heap
-without_unused_regions heap =
-    let regions = used_regions heap in
-    record heap { regions = regions; hugepages = each (λ h x. if is_region x && not (list_any (spans heap.config.region h) regions) then record x { kind = kind.Free } else x) heap.hugepages }
+without_unused_regions heap = record heap {
+  regions = used_regions heap;
+  hugepages = each (λ h x. if is_region x && not (list_any (spans heap.config.region h) (used_regions heap)) then record x { kind = kind.Free } else x) heap.hugepages;
+}
 
 -- The heap after a live run is given back, before it settles, and after the run is freed.
 abbrev pub given_back : Heap → Run → Heap

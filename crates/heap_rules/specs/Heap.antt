@@ -109,33 +109,22 @@ backed_count x = count_by (λ b. b) x.backed
 abbrev pub tier : Hugepage → ℕ
 tier x = if list_all (λ b. b) x.backed then (if x.donated then 1 else 0) else 2
 
--- whether a hugepage is free, of the filler, of a region, and whether it is free and backed
-abbrev pub is_kind_free : RowKind → Bool
-is_kind_free kind.Free = true
-is_kind_free kind.Filler = false
-is_kind_free kind.Run = false
-is_kind_free kind.Region = false
-
-abbrev pub is_kind_filler : RowKind → Bool
-is_kind_filler kind.Free = false
-is_kind_filler kind.Filler = true
-is_kind_filler kind.Run = false
-is_kind_filler kind.Region = false
-
-abbrev pub is_kind_region : RowKind → Bool
-is_kind_region kind.Free = false
-is_kind_region kind.Filler = false
-is_kind_region kind.Run = false
-is_kind_region kind.Region = true
+-- whether two kinds are the same, and whether a hugepage is free, of the filler, of a region, and free and backed
+abbrev pub is_kind : RowKind → RowKind → Bool
+is_kind kind.Free kind.Free = true
+is_kind kind.Filler kind.Filler = true
+is_kind kind.Run kind.Run = true
+is_kind kind.Region kind.Region = true
+is_kind a b = false
 
 abbrev pub is_free : Hugepage → Bool
-is_free x = is_kind_free x.kind
+is_free x = is_kind kind.Free x.kind
 
 abbrev pub is_filler : Hugepage → Bool
-is_filler x = is_kind_filler x.kind
+is_filler x = is_kind kind.Filler x.kind
 
 abbrev pub is_region : Hugepage → Bool
-is_region x = is_kind_region x.kind
+is_region x = is_kind kind.Region x.kind
 
 abbrev pub is_free_backed : Hugepage → Bool
 is_free_backed x = is_free x && list_all (λ b. b) x.backed
@@ -161,4 +150,6 @@ backed_pages heap = sum_by backed_count heap.hugepages
 
 -- all measures of hugepage h
 abbrev pub row_of : Heap → ℕ → RowView
-row_of heap h = record { kind = (hugepage heap h).kind; used = used_count heap.runs h; allocs = allocation_count heap.runs h; backed = backed_count (hugepage heap h); longest = longest_range heap.runs h; donated = (hugepage heap h).donated }
+row_of heap h =
+    let x = hugepage heap h in
+    record { kind = x.kind; used = used_count heap.runs h; allocs = allocation_count heap.runs h; backed = backed_count x; longest = longest_range heap.runs h; donated = x.donated }

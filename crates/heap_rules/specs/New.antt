@@ -1,5 +1,5 @@
 -- A new run: its three routes, and where none fits.
-use Rattle.std.specs.Prelude.{ℕ, ◌+◌, ◌-◌, ◌*◌, ◌%◌, Bool, true, false, ◌==◌, ◌&&◌, ◌||◌, not, nat_lt, nat_le, List, map, sum_by, Option, Some, None, option_map, if◌then◌else◌}
+use Rattle.std.specs.Prelude.{ℕ, ◌+◌, ◌-◌, ◌*◌, ◌%◌, Bool, true, false, ◌==◌, ◌&&◌, ◌||◌, not, nat_lt, nat_le, map, sum_by, Option, None, option_map, if◌then◌else◌}
 use Rattle.std.specs.List.{list_all}
 use Rattle.std.specs.Option.{option_or}
 use Rattle.tc_units.specs.Units.{huge_pages}
@@ -54,34 +54,26 @@ in_filler heap n page = placed heap page n (more_backed (run_at page n))
 abbrev pub in_fresh : Heap → ℕ → ℕ → Placed
 in_fresh heap n h = placed heap (huge_pages * h) n (λ _ _. filler_page false)
 
-abbrev pub by_filler : Heap → ℕ → Option ℕ → Option Placed
-by_filler heap n (Some page) = Some (in_filler heap n page)
-by_filler heap n None = option_map (in_fresh heap n) (run_choice heap 1)
-
 abbrev pub new_small : Heap → ℕ → Option Placed
-new_small heap n = by_filler heap n (filler_place (filler_rows heap) n)
+new_small heap n = option_or (option_map (in_filler heap n) (filler_place (filler_rows heap) n)) (option_map (in_fresh heap n) (run_choice heap 1))
 
 -- The run route: whole hugepages, of which the last is donated to the filler where n isn't a multiple.
-abbrev pub in_free : Heap → ℕ → ℕ → Placed
-in_free heap n h = placed heap (huge_pages * h) n (λ k _. run_or_tail (huge_pages * h + n) k)
-
 abbrev pub new_whole : Heap → ℕ → Option Placed
-new_whole heap n = option_map (in_free heap n) (run_choice heap (hugepages_for n))
+new_whole heap n = option_map (λ h. placed heap (huge_pages * h) n (λ k _. run_or_tail (huge_pages * h + n) k)) (run_choice heap (hugepages_for n))
 
 -- In a region.
 abbrev pub in_region : Heap → ℕ → ℕ → Placed
 in_region heap n page = placed heap page n (λ _ x. all_backed x)
-
--- the regions with one more, in order
-abbrev pub with_region : ℕ → List ℕ → List ℕ
-with_region r regions = with_item (λ k. k) r regions
 
 -- the heap with a new region, whose hugepages keep their backing
 abbrev pub region_page : Hugepage → Hugepage
 region_page x = record { kind = kind.Region; donated = false; backed = x.backed }
 
 abbrev pub with_new_region : Heap → ℕ → Heap
-with_new_region heap r = record heap { regions = with_region r heap.regions; hugepages = each (λ h x. if spans heap.config.region h r then region_page x else x) heap.hugepages }
+with_new_region heap r = record heap {
+  regions = with_item (λ k. k) r heap.regions;
+  hugepages = each (λ h x. if spans heap.config.region h r then region_page x else x) heap.hugepages;
+}
 
 abbrev pub in_new_region : Heap → ℕ → ℕ → Placed
 in_new_region heap n r = placed (with_new_region heap r) (huge_pages * r) n (λ _ x. all_backed x)
@@ -90,13 +82,12 @@ in_new_region heap n r = placed (with_new_region heap r) (huge_pages * r) n (λ 
 abbrev pub slack : Heap → ℕ → ℕ
 slack heap n = sum_by (λ h. if (hugepage heap h).donated then huge_pages - used_count heap.runs h else 0) (numbers heap) + (huge_pages * hugepages_for n - n)
 
--- In a new region where the slack is large enough, else by the run route.
-abbrev pub new_beside_regions : Heap → ℕ → Option Placed
-new_beside_regions heap n = option_or (if nat_le heap.config.slack (slack heap n) then option_map (in_new_region heap n) (run_choice heap heap.config.region) else None) (new_whole heap n)
-
-abbrev pub by_regions : Heap → ℕ → Option ℕ → Option Placed
-by_regions heap n (Some page) = Some (in_region heap n page)
-by_regions heap n None = new_beside_regions heap n
+-- In a region that has room, else in a new one where the slack is large enough, else by the run route.
+abbrev pub by_regions : Heap → ℕ → Option Placed
+by_regions heap n =
+    let joined = option_map (in_region heap n) (region_place (region_rows heap) n) in
+    let opened = if nat_le heap.config.slack (slack heap n) then option_map (in_new_region heap n) (run_choice heap heap.config.region) else None in
+    option_or joined (option_or opened (new_whole heap n))
 
 -- whether n pages, 256 or more, may lie in a region: no multiple of a hugepage, and no more than a region has
 abbrev pub suits_region : HeapConfig → ℕ → Bool
@@ -104,14 +95,11 @@ suits_region config n = not (n % huge_pages == 0) && nat_le n (huge_pages * conf
 
 -- A new run of n pages, by its route.
 abbrev pub new_unsettled : Heap → ℕ → Option Placed
-new_unsettled heap n = if nat_lt n huge_pages then new_small heap n else (if suits_region heap.config n then by_regions heap n (region_place (region_rows heap) n) else new_whole heap n)
+new_unsettled heap n = if nat_lt n huge_pages then new_small heap n else (if suits_region heap.config n then by_regions heap n else new_whole heap n)
 
 -- and then the heap settles
-abbrev pub settled_placed : Placed → Placed
-settled_placed p = record p { heap = settled p.heap }
-
 abbrev pub new : Heap → ℕ → Option Placed
-new heap n = option_map settled_placed (new_unsettled heap n)
+new heap n = option_map (λ (p : Placed). record p { heap = settled p.heap }) (new_unsettled heap n)
 
 -- No run of n pages fits. Below a hugepage: no hugepage of the filler has n adjacent unused pages, and none is free.
 -- Else: too few adjacent hugepages are free, and no region suits n and has n adjacent unused pages.

@@ -1,5 +1,5 @@
 -- (huge_region) The choice of a region, over a list of regions.
-use Rattle.std.specs.Prelude.{ℕ, ◌+◌, ◌*◌, Bool, nat_le, List, filter, Option, Some, None, option_map}
+use Rattle.std.specs.Prelude.{ℕ, ◌+◌, ◌*◌, Bool, nat_le, List, filter, Option, option_map, option_and_then}
 use Rattle.std.specs.Ordering.{nat_cmp, ordering_then, is_lt}
 use Rattle.tc_units.specs.Units.{huge_pages}
 use Rattle.range_bits.specs.Ranges.{best, longest, first_least}
@@ -17,9 +17,7 @@ abbrev pub has_room : ℕ → RegionRow → Bool
 has_room n row = nat_le n (longest row.used)
 
 -- the first page for n pages: in the preferred region with room, at the start of its shortest maximal unused range that is long enough
-abbrev pub place_in_region : ℕ → Option RegionRow → Option ℕ
-place_in_region n None = None
-place_in_region n (Some row) = option_map (λ start. huge_pages * row.first + start) (best row.used n)
-
 abbrev pub region_place : List RegionRow → ℕ → Option ℕ
-region_place rows n = place_in_region n (first_least is_preferred (filter (has_room n) rows))
+region_place rows n =
+    let chosen = first_least is_preferred (filter (has_room n) rows) in
+    option_and_then (λ (row : RegionRow). option_map (λ start. huge_pages * row.first + start) (best row.used n)) chosen

@@ -14,7 +14,9 @@ pub record Released : Type 0 where
 
 -- hugepages that give all their pages, by their flags
 abbrev pub whole_given : List Bool → Heap → ℕ → Released
-whole_given flags heap n = record { heap = record heap { hugepages = each (λ h x. if gives_whole flags n h then unbacked x else x) heap.hugepages }; pages = huge_pages * count_by (gives_whole flags n) (numbers heap) }
+whole_given flags heap n =
+    let hugepages = each (λ h x. if gives_whole flags n h then unbacked x else x) heap.hugepages in
+    record { heap = record heap { hugepages = hugepages }; pages = huge_pages * count_by (gives_whole flags n) (numbers heap) }
 
 -- First free ones that are backed.
 abbrev pub free_given : Heap → ℕ → Released
@@ -34,24 +36,21 @@ spare_pages heap h = count_by (λ page. backs (hugepage heap h) page && not (is_
 abbrev pub spare_row : Heap → ℕ → SpareRow
 spare_row heap h = record { number = h; used = used_count heap.runs h; spare = spare_pages heap h }
 
-abbrev pub spare_rows : Heap → List SpareRow
-spare_rows heap = map (spare_row heap) (filter (λ h. is_filler (hugepage heap h)) (numbers heap))
-
 abbrev pub only_used : List Run → ℕ → Hugepage → Hugepage
 only_used runs h x = record x { backed = map (λ page. backs x page && is_used runs page) (pages_of h) }
 
 abbrev pub spare_given : Heap → ℕ → Released
-spare_given heap n = record { heap = record heap { hugepages = each (λ h x. if is_filler x && gives_spare (spare_rows heap) n (spare_row heap h) then only_used heap.runs h x else x) heap.hugepages }; pages = sum_by (λ row. row.spare) (filter (gives_spare (spare_rows heap) n) (spare_rows heap)) }
+spare_given heap n =
+    let rows = map (spare_row heap) (filter (λ h. is_filler (hugepage heap h)) (numbers heap)) in
+    let hugepages = each (λ h x. if is_filler x && gives_spare rows n (spare_row heap h) then only_used heap.runs h x else x) heap.hugepages in
+    record { heap = record heap { hugepages = hugepages }; pages = sum_by (λ row. row.spare) (filter (gives_spare rows n) rows) }
 
 -- A release of n pages, and how many it unbacked.
-abbrev pub after_regions : ℕ → Released → Released
-after_regions n b = let c = spare_given b.heap (n - b.pages) in record c { pages = b.pages + c.pages }
-
-abbrev pub after_free : ℕ → Released → Released
-after_free n a = let b = idle_given a.heap (n - a.pages) in after_regions n (record b { pages = a.pages + b.pages })
-
 abbrev pub release : Heap → ℕ → Released
-release heap n = after_free n (free_given heap n)
+release heap n =
+    let a = free_given heap n in
+    let b = idle_given a.heap (n - a.pages) in
+    let c = spare_given b.heap (n - (a.pages + b.pages)) in record c { pages = a.pages + b.pages + c.pages }
 
 -- What there is to unback: the backed pages without a live run, of hugepages that are free, of the filler, or of a
 -- region and without a used page.

@@ -1,11 +1,12 @@
 -- Calls have the peak that is read off their weights, and no other.
-use Rattle.std.proofs.Common.{◌≡◌, ℕ, zero, suc, ◌+◌, ◌<◌, ◌≤◌, List, [], ◌∷◌, length, get_or, fold, max, arith}
+use Rattle.std.proofs.Common.{◌≡◌, ℕ, zero, suc, ◌+◌, ◌<◌, ◌≤◌, List, [], ◌∷◌, length, map, get_or, fold, max, arith}
+use Rattle.std.specs.List.{range_with_len}
 use Rattle.std.proofs.lemmas.List.FromFn.{get_or-map-range_with_len, length-map-range_with_len}
 use Rattle.std.proofs.lemmas.List.Sums.{prefix_len_is}
 use Rattle.std.proofs.lemmas.Bool.Decides.{nat_tests}
 use Rattle.tc_model.specs.declared.answers.CallLine.{CallLine}
 use Rattle.heap_sample.specs.declared.sample.Peak.{Peak}
-use Rattle.heap_sample.specs.Samples.{weight_after, weights_of, peak_of, IsPeak}
+use Rattle.heap_sample.specs.Samples.{weight_after, peak_of, IsPeak}
 
 -- the greatest of numbers is at least each, and at most what none is above
 greatest_from : (a : ℕ) (ns : List ℕ) → a ≤ fold max a ns
@@ -23,7 +24,7 @@ greatest_least a most (n ∷ ns) first each = greatest_least (max a n) most ns (
 
 pub only_peak : (step : ℕ) (calls : List CallLine) (peak : Peak) → IsPeak step calls peak → peak ≡ peak_of step calls
 only_peak step calls peak is =
-    let ws = weights_of step calls in
+    let ws = map (weight_after step calls) (range_with_len 0 (length calls + 1)) in
     grind (
       arith,
       nat_tests,

@@ -72,19 +72,17 @@ AreSame ones others = (f : ℕ × Sample → ℕ) → sum_by f ones ≡ sum_by f
 abbrev pub HasLabel : List (ℕ × Sample) → ℕ → Type 0
 HasLabel live label = Any (λ s. s.0 ≡ label) live
 
--- what the live samples stand for after so many of the calls, and after each number of them, from none to all
+-- what the live samples stand for after so many of the calls
 abbrev pub weight_after : ℕ → List CallLine → ℕ → ℕ
 weight_after step calls k = weight_in (live_samples step (take k calls))
 
-abbrev pub weights_of : ℕ → List CallLine → List ℕ
-weights_of step calls = map (weight_after step calls) (range_with_len 0 (length calls + 1))
-
--- The peak is the greatest of these weights, with the least number of calls that reaches it: by its value, and as what holds
--- of it.
+-- The peak is the greatest of the weights after each number of calls, from none to all, with the least number that reaches
+-- it: by its value, and as what holds of it.
 abbrev pub peak_of : ℕ → List CallLine → Peak
 peak_of step calls =
-    let greatest = fold max 0 (weights_of step calls) in
-    record { bytes = greatest; call = position_or_len (λ weight. weight == greatest) (weights_of step calls) }
+    let weights = map (weight_after step calls) (range_with_len 0 (length calls + 1)) in
+    let greatest = fold max 0 weights in
+    record { bytes = greatest; call = position_or_len (λ weight. weight == greatest) weights }
 
 pub record IsPeak (step : ℕ) (calls : List CallLine) (peak : Peak) : Type 0 where
   pub within : peak.call ≤ length calls

@@ -1,5 +1,5 @@
 -- Blocks that calls leave have no byte in common, and their bytes are among those of the live runs.
-use Rattle.std.proofs.Common.{◌≡◌, ℕ, zero, suc, ◌+◌, ◌*◌, ◌<◌, ◌≤◌, Bool, true, false, not, ◌&&◌, eqb, leb}
+use Rattle.std.proofs.Common.{◌≡◌, ℕ, zero, suc, ◌+◌, ◌*◌, ◌<◌, ◌≤◌, Bool, false, not, ◌&&◌, eqb, leb}
 use Rattle.std.proofs.Common.{ltb, List, [], ◌∷◌, ◌++◌, length, take, drop, refl, sym, ap, ◌∙◌, subst, arith, inl, inr}
 use Rattle.std.specs.Prelude.{All, count_by, filter, sum_by}
 use Rattle.std.specs.List.{list_any, slice_index_or}
@@ -159,13 +159,13 @@ sum_all f (b ∷ bs) each =
     omega (arith, All-head (λ (x : Extent). x.len ≤ f x) b bs each, rest, sum_by-cons (λ (x : Extent). x.len) b bs, sum_by-cons f b bs)
 
 module _ (m : Setup) (b : Books) (calls : List CallLine) (f : Facts m b calls) where
-  standing_lies : (x : Extent) → IsStanding m b x → x.len ≤ in_runs b.heap x
+  standing_lies : (x : Extent) → IsStanding m.rows b x → x.len ≤ in_runs b.heap x
   standing_lies x stands = grind (arith, lies x, span_of m b calls f)
 
   pub bytes_in : live_bytes calls ≤ sum_by (λ (r : Run). r.pages) b.heap * page_bytes
   bytes_in =
       let spread = rw (take_all (length calls) calls (omega arith)) at (spread_after m.huge (length_of m.rows) calls f.kept.run (length calls) (omega arith)) in
-      let each = All-weaken (IsStanding m b) (λ (x : Extent). x.len ≤ in_runs b.heap x) (blocks_after calls) standing_lies f.live in
+      let each = All-weaken (IsStanding m.rows b) (λ (x : Extent). x.len ≤ in_runs b.heap x) (blocks_after calls) standing_lies f.live in
       omega (arith, sum_all (in_runs b.heap) (blocks_after calls) each, few_in (blocks_after calls) spread.bytes b.heap)
 
 pub bytes_are_within : BytesWithin

@@ -4,7 +4,7 @@ use Rattle.tc_units.specs.declared.units.Addr.{Addr}
 use Rattle.std.specs.Prelude.{All, is_some, sum_by}
 use Rattle.holdings.specs.Kept.{AreKept}
 use Rattle.holdings.specs.Books.{Books, IsCut, Setup, Stock, class_number, over_classes}
-use Rattle.std.proofs.Common.{Bool, List, Option, Some, arith, false, inl, inr, length, ltb, subst, true, ℕ, ◌&&◌, ◌+◌, ◌<◌, ◌∷◌, ◌≡◌, ◌≤◌, ◌⊎◌}
+use Rattle.std.proofs.Common.{Bool, List, Option, Some, arith, false, inl, inr, length, ltb, subst, ℕ, ◌&&◌, ◌+◌, ◌<◌, ◌∷◌, ◌≡◌, ◌≤◌, ◌⊎◌}
 use Rattle.tc_model.specs.declared.answers.CallLine.{CallLine}
 use Rattle.tc_units.specs.declared.spans.ClassRow.{ClassRow}
 use Rattle.tc_model.specs.Blocks.{Extent, answer_to, blocks_after, meets}
@@ -95,8 +95,8 @@ module _ {m : Setup} {b : Books} {calls : List CallLine} (f : Facts m b calls) w
 
     pub still : (heap : List Run) (spans : List SpanRef) (names : List NameState)
         → ((x : Extent) (l : IsLarge b x) → (0 < runs_like l.run heap) × ((k : ℕ) → spans_like (small (class_number k) l.run) spans ≡ 0) × (spans_of_run l.run w.apart ≡ 0))
-        → All (IsStanding m (books_with b b.stock heap spans names t w)) (blocks_after calls)
-    still heap spans names larges = All-weaken (IsStanding m b) (IsStanding m (books_with b b.stock heap spans names t w)) (blocks_after calls) (λ x stands. elim stands [
+        → All (IsStanding m.rows (books_with b b.stock heap spans names t w)) (blocks_after calls)
+    still heap spans names larges = All-weaken (IsStanding m.rows b) (IsStanding m.rows (books_with b b.stock heap spans names t w)) (blocks_after calls) (λ x stands. elim stands [
       | inl l ↦ let stays = larges x l in inl (large_still b.stock heap spans names x l stays.0 stays.1 stays.2)
       | inr o ↦ inr (record { class = o.class; object = o.object; size = o.size })
     ]) f.live
@@ -106,7 +106,7 @@ module _ {m : Setup} {b : Books} {calls : List CallLine} (f : Facts m b calls) w
 
     -- all groups together
     pub moved : (stock : Stock) (heap : List Run) (spans : List SpanRef) (names : List NameState) (after : List CallLine) → AreKept (length_of m.rows) m.huge after
-        → All (IsStanding m (books_with b stock heap spans names t w)) (blocks_after after) → HeapFacts m.huge heap → IsCut m.rows stock → IsSelf m w
+        → All (IsStanding m.rows (books_with b stock heap spans names t w)) (blocks_after after) → HeapFacts m.huge heap → IsCut m.rows stock → IsSelf m w
         → LabelFacts m.labels names (slice_set b.accounts t w) after
         → SpanFacts stock.owned heap spans (slice_set b.accounts t w) → PlaceFacts m.rows stock heap names (slice_set b.accounts t w)
         → Facts m (books_with b stock heap spans names t w) after

@@ -33,7 +33,7 @@ meets_inner c x y from to apart = grind (arith, and_from, and_parts, cases_Bool,
 
 module _ {m : Setup} {b : Books} {calls : List CallLine} (f : Facts m b calls) (t : ℕ) (a : Account) (at : slice_get b.accounts t ≡ Some a) where
   -- an object lies in its span's block
-  pub object_inner : (c x : Extent) (o : IsObject m b x) → ((s : SpanRef) → 0 < b.stock.owned s → meets c (block_of (run_of s)) ≡ false) → meets c x ≡ false
+  pub object_inner : (c x : Extent) (o : IsObject m.rows b x) → ((s : SpanRef) → 0 < b.stock.owned s → meets c (block_of (run_of s)) ≡ false) → meets c x ≡ false
   object_inner c x o apart =
       let s = span_of m b calls f o.class x.addr o.object in
       meets_inner c x (block_of (run_of s.span)) s.from (omega (arith, s.to, o.size)) (apart s.span s.owned)
@@ -68,7 +68,7 @@ module _ {m : Setup} {b : Books} {calls : List CallLine} (f : Facts m b calls) (
       let zero_held : (n : ℕ) → loose n a.doing ≡ 0 = λ n. ap (loose n) is in
       let off : (q : Run) → runs_like q a.off ≡ 0 = λ q. ap (runs_like q) empty in
       let unlike : runs_like r b.heap ≡ 0 = omega (arith, like_at r b.heap, placed.fresh) in
-      let apart = All-weaken (IsStanding m b) (λ (x : Extent). meets (block_of r) x ≡ false) (blocks_after calls) (λ x stands. elim stands [
+      let apart = All-weaken (IsStanding m.rows b) (λ (x : Extent). meets (block_of r) x ≡ false) (blocks_after calls) (λ x stands. elim stands [
         | inl l ↦ subst (λ (y : Extent). meets (block_of r) y ≡ false) (sym l.is) (placed.apart l.run l.live)
         | inr o ↦ object_inner (block_of r) x o (λ s own. placed.apart (run_of s) (span_lives m b calls f s (owned_there m b calls f s own)))
       ]) f.live in
@@ -85,7 +85,7 @@ module _ {m : Setup} {b : Books} {calls : List CallLine} (f : Facts m b calls) (
       moved f t a w at b.stock (r ∷ b.heap) b.spans b.names (calls ++ c ∷ [])
       (kept_block f.kept (record { 0 = t }) label size (address_of r) (r.pages * page_bytes) (unanswered f t a at label size is)
       (record { inside = placed.inside; apart = none_meets (block_of r) (blocks_after calls) apart }) (sym length_is) placed.inside.some)
-      (rw (blocks_after-push calls c) (All-with_item (λ (b : Extent). b.addr) (IsStanding m (books_with b b.stock (r ∷ b.heap) b.spans b.names t w)) (block_of r) (blocks_after calls) (inl new)
+      (rw (blocks_after-push calls c) (All-with_item (λ (b : Extent). b.addr) (IsStanding m.rows (books_with b b.stock (r ∷ b.heap) b.spans b.names t w)) (block_of r) (blocks_after calls) (inl new)
       (still f t a w at (r ∷ b.heap) b.spans b.names (λ x l. (omega (arith, l.live), l.unmapped, l.unheld t a at))))) (heap_more f (pages_holding size) r placed) f.cut
       (record {
         freeing = λ l o e. absurd (cc);
@@ -151,8 +151,8 @@ module _ {m : Setup} {b : Books} {calls : List CallLine} (f : Facts m b calls) (
       let block = has_block calls label.0 (address_of r) (value_returned f t a at label (address_of r) returns) in
       let none = none_begins r some empty in
       moved f t a w at b.stock (less r b.heap) b.spans b.names (calls ++ c ∷ []) (kept_freed f.kept (record { 0 = t }) label (address_of r) block.0 block.1)
-      (subst (All (IsStanding m (books_with b b.stock (less r b.heap) b.spans b.names t w))) (sym (blocks_after-push calls c))
-      (All-kept (IsStanding m b) (IsStanding m (books_with b b.stock (less r b.heap) b.spans b.names t w)) (λ (x : Extent). not (eqb x.addr (first_byte r))) _ (λ x stands apart. elim stands [
+      (subst (All (IsStanding m.rows (books_with b b.stock (less r b.heap) b.spans b.names t w))) (sym (blocks_after-push calls c))
+      (All-kept (IsStanding m.rows b) (IsStanding m.rows (books_with b b.stock (less r b.heap) b.spans b.names t w)) (λ (x : Extent). not (eqb x.addr (first_byte r))) _ (λ x stands apart. elim stands [
         | inl l ↦ grind (arith, nat_tests, large_still f t a w, same_start l.run r (first_byte r), same_run_is r l.run, gone l.run, l.unheld t a)
         | inr o ↦ inr (record { class = o.class; object = o.object; size = o.size })
       ]) f.live)) (heap_less f r there) f.cut (record {

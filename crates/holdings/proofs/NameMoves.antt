@@ -1,5 +1,5 @@
 -- Acts on the names.
-use Rattle.holdings.specs.Accounts.{Account, Doing, Frees, Holds, Other, Publishes, Takes, held_at, in_hand, is_at, loose}
+use Rattle.holdings.specs.Accounts.{Account, Doing, Frees, Holds, Other, Publishes, Takes, held_at, in_hand, loose, named_at}
 use Rattle.tc_units.specs.declared.units.Addr.{Addr}
 use Rattle.std.specs.Prelude.{All, is_some}
 use Rattle.holdings.specs.Books.{Books, Setup}
@@ -24,7 +24,7 @@ use Rattle.holdings.proofs.Sums.{shift}
 use Rattle.name_table.specs.declared.table.NameState.TheVariants as name
 
 module _ {m : Setup} {b : Books} {calls : List CallLine} (f : Facts m b calls) (t : ℕ) (a : Account) (at : slice_get b.accounts t ≡ Some a) where
-  stands_still : (w : Account) (names : List NameState) → w.apart ≡ a.apart → All (IsStanding m (books_with b b.stock b.heap b.spans names t w)) (blocks_after calls)
+  stands_still : (w : Account) (names : List NameState) → w.apart ≡ a.apart → All (IsStanding m.rows (books_with b b.stock b.heap b.spans names t w)) (blocks_after calls)
   stands_still w names apart = still f t a w at b.heap b.spans names (λ x l. (l.live, l.unmapped, ap (spans_of_run l.run) apart ∙ l.unheld t a at))
 
   pub publishes_name : (label : Label) (value : Option Addr) → a.doing ≡ Publishes label value → a.off ≡ [] → a.clears ≡ []
@@ -50,7 +50,7 @@ module _ {m : Setup} {b : Books} {calls : List CallLine} (f : Facts m b calls) (
 
   -- a taken label, with nothing held before
   module _ (label : Label) (is : a.doing ≡ Takes label) where
-    places_taken : (u : Option Addr) (d : Doing) → state_of b.names label.0 ≡ name.Published u → ((n : ℕ) → loose n d ≡ bit (is_at n u))
+    places_taken : (u : Option Addr) (d : Doing) → state_of b.names label.0 ≡ name.Published u → ((n : ℕ) → loose n d ≡ named_at n (name.Published u))
         → PlaceFacts m.rows b.stock b.heap (slice_set b.names label.0 name.Taken) (slice_set b.accounts t (about a d))
     places_taken u d old same =
         let w : Account = about a d in
@@ -84,7 +84,7 @@ module _ {m : Setup} {b : Books} {calls : List CallLine} (f : Facts m b calls) (
         let names : List NameState = slice_set b.names label.0 name.Taken in
         let has = value_named f t a at label.0 None old in
         moved f t a w at b.stock b.heap b.spans names (calls ++ c ∷ []) (kept_freed_null f.kept (record { 0 = t }) label (has_null calls label.0 (f.kept.answers label.0) has))
-        (subst (All (IsStanding m (books_with b b.stock b.heap b.spans names t w))) (sym (blocks_after-push calls c)) (stands_still w names refl))
+        (subst (All (IsStanding m.rows (books_with b b.stock b.heap b.spans names t w))) (sym (blocks_after-push calls c)) (stands_still w names refl))
         (heap_facts f) f.cut (self_taken Other (λ l x e. absurd (cc)))
         (labels_taken f t a at w refl label None (calls ++ c ∷ []) is old (λ x. refl) (λ x. ap (λ o. bit (is_some o)) (answer_same calls c x refl))
         (λ x v. omega (arith, lose calls (record { 0 = t }) label FreedNull None has x v))) (spans_still f t a w at b.stock.owned (λ r. refl) (λ s. refl) (λ s. refl))

@@ -104,9 +104,9 @@ module _ {m : Setup} {b : Books} {calls : List CallLine} (f : Facts m b calls) (
             classes = stock_classes f t a at g hand stocked then refl (λ n. omega arith);
           }
 
-      stands_hand : (x : Extent) → IsStanding m b x → Labelled calls x
+      stands_hand : (x : Extent) → IsStanding m.rows b x → Labelled calls x
           → ((label : Label) (o : Addr) → a.doing ≡ Frees label o → o.0 ≡ x.addr → 0 < objects_at x.addr hand)
-          → IsStanding m (books_with b g b.heap b.spans b.names t then) x
+          → IsStanding m.rows (books_with b g b.heap b.spans b.names t then) x
       stands_hand x stands own frees =
           stands_on f t a at g hand stocked then x stands own frees (λ q unmapped unheld. omega (arith, counts_append (of_run q) freed a.apart, unheld, freed_spans g freed move.spans q unmapped))
 
@@ -126,10 +126,10 @@ module _ {m : Setup} {b : Books} {calls : List CallLine} (f : Facts m b calls) (
         let none : (n : ℕ) → loose n Other ≡ loose n a.doing = λ n. sym (ap (loose n) is) in
         let returns = by_frees label o a.doing is in
         let block = has_block calls label.0 o (value_returned f t a at label o returns) in
-        let both : All (λ (x : Extent). IsStanding m b x × Labelled calls x) (blocks_after calls) = λ i d within. (f.live i d within, f.kept.labelled i d within) in
+        let both : All (λ (x : Extent). IsStanding m.rows b x × Labelled calls x) (blocks_after calls) = λ i d within. (f.live i d within, f.kept.labelled i d within) in
         moved f t a w at g b.heap b.spans b.names (calls ++ c ∷ []) (kept_freed f.kept (record { 0 = t }) label o block.0 block.1)
-        (subst (All (IsStanding m (books_with b g b.heap b.spans b.names t w))) (sym (blocks_after-push calls c))
-        (All-kept (λ (x : Extent). IsStanding m b x × Labelled calls x) (IsStanding m (books_with b g b.heap b.spans b.names t w)) (λ (x : Extent). not (eqb x.addr o.0)) _ (λ x has apart.
+        (subst (All (IsStanding m.rows (books_with b g b.heap b.spans b.names t w))) (sym (blocks_after-push calls c))
+        (All-kept (λ (x : Extent). IsStanding m.rows b x × Labelled calls x) (IsStanding m.rows (books_with b g b.heap b.spans b.names t w)) (λ (x : Extent). not (eqb x.addr o.0)) _ (λ x has apart.
         stands_hand Other none x has.0 has.1 (λ label' o' is' there.
         let e : o.0 ≡ o'.0 = ap (λ (y : Addr). y.0) (one_free label label' o o' (sym is ∙ is')) in
         absurd (false≢true (sym (ap not (eq-eqb x.addr o.0 (sym there ∙ sym e))) ∙ apart)))) both)) (heap_facts f) cut (self_hand Other none (λ l x e. absurd (cc)))
@@ -192,7 +192,7 @@ module _ {m : Setup} {b : Books} {calls : List CallLine} (f : Facts m b calls) (
         let inner : meets (block_of l.run) place ≡ false = meets_inner (block_of l.run) place (block_of (run_of s.span)) s.from (omega (arith, s.to)) unmet in
         meets_flip x place (subst (λ (y : Extent). meets y place ≡ false) (sym l.is) inner)
 
-    apart_object : (x : Extent) → Labelled calls x → IsObject m b x → meets place x ≡ false
+    apart_object : (x : Extent) → Labelled calls x → IsObject m.rows b x → meets place x ≡ false
     apart_object x label_x ob =
         let some : 0 < g.objects ob.class x.addr = object_stays f t a at g (o ∷ rest) st x label_x (unfreed x) ob.class ob.object in
         elim (cases_eq ob.class a.class) [
@@ -225,8 +225,8 @@ module _ {m : Setup} {b : Books} {calls : List CallLine} (f : Facts m b calls) (
         (sym (class_length m.rows size a.class class).1) some
 
     pub live_object : (w : Account) → ((q : Run) → spans_of_run q a.apart ≡ 0 → spans_of_run q w.apart ≡ 0)
-        → All (IsStanding m (books_with b g b.heap b.spans b.names t w)) (blocks_after (calls ++ line ∷ []))
+        → All (IsStanding m.rows (books_with b g b.heap b.spans b.names t w)) (blocks_after (calls ++ line ∷ []))
     live_object w apart =
-        subst (All (IsStanding m (books_with b g b.heap b.spans b.names t w))) (sym (blocks_after-push calls line))
-        (All-with_item (λ (b : Extent). b.addr) (IsStanding m (books_with b g b.heap b.spans b.names t w)) place (blocks_after calls) (inr (record { class = a.class; object = object; size = refl }))
+        subst (All (IsStanding m.rows (books_with b g b.heap b.spans b.names t w))) (sym (blocks_after-push calls line))
+        (All-with_item (λ (b : Extent). b.addr) (IsStanding m.rows (books_with b g b.heap b.spans b.names t w)) place (blocks_after calls) (inr (record { class = a.class; object = object; size = refl }))
         (λ i d within. stands_on f t a at g (o ∷ rest) st w _ (f.live i d within) (f.kept.labelled i d within) (unfreed (get_or (blocks_after calls) i d)) (λ q unmapped unheld. apart q unheld)))

@@ -127,8 +127,8 @@ module _ {m : Setup} {b : Books} {calls : List CallLine} (f : Facts m b calls) (
           | inr other ↦ let o = st.others k x.addr other in omega (arith, o.1, some)
         ]
 
-    pub stands_on : (w : Account) (x : Extent) → IsStanding m b x → Labelled calls x
+    pub stands_on : (w : Account) (x : Extent) → IsStanding m.rows b x → Labelled calls x
         → ((label : Label) (o : Addr) → a.doing ≡ Frees label o → o.0 ≡ x.addr → 0 < objects_at x.addr came)
         → ((q : Run) → ((k : ℕ) → spans_like (small (class_number k) q) b.spans ≡ 0) → spans_of_run q a.apart ≡ 0 → spans_of_run q w.apart ≡ 0)
-        → IsStanding m (books_with b g b.heap b.spans b.names t w) x
+        → IsStanding m.rows (books_with b g b.heap b.spans b.names t w) x
     stands_on w x stands own frees apart = grind (arith, large_still f t a w, apart, object_stays x own frees)

@@ -5,7 +5,7 @@ use Rattle.tc_units.specs.declared.units.Label.{Label}
 use Rattle.tc_units.specs.declared.spans.Run.{Run}
 use Rattle.tc_units.specs.declared.spans.SpanRef.{SpanRef}
 use Rattle.tc_model.specs.declared.calls.Call.{Call}
-use Rattle.tc_model.specs.declared.calls.Call.TheVariants.{Malloc, Free, Release, Drain, Resize}
+use Rattle.tc_model.specs.declared.calls.Call.TheVariants.{Malloc, Free}
 use Rattle.tc_model.specs.declared.calls.Planned.{Planned}
 use Rattle.name_table.specs.declared.table.NameState.{NameState}
 use Rattle.name_table.specs.declared.table.NameState.TheVariants as name
@@ -37,17 +37,11 @@ pub record Account : Type 0 where
 -- how often a call, and calls, allocate a label, or free it
 abbrev pub got : ℕ → Call → ℕ
 got x (Malloc label size) = bit (label.0 == x)
-got x (Free label) = 0
-got x (Release pages) = 0
-got x (Drain cpu) = 0
-got x (Resize cpu class cap) = 0
+got x _ = 0
 
 abbrev pub put : ℕ → Call → ℕ
-put x (Malloc label size) = 0
 put x (Free label) = bit (label.0 == x)
-put x (Release pages) = 0
-put x (Drain cpu) = 0
-put x (Resize cpu class cap) = 0
+put x _ = 0
 
 abbrev pub gets : ℕ → List Planned → ℕ
 gets x [] = 0
@@ -86,9 +80,8 @@ mentions x a = asking x a.doing + publishing x a.doing + taking x a.doing + gets
 -- whether two values of labels are one
 abbrev pub same_value : Option Addr → Option Addr → Bool
 same_value None None = true
-same_value None (Some b) = false
-same_value (Some a) None = false
 same_value (Some a) (Some b) = a.0 == b.0
+same_value _ _ = false
 
 -- whether it holds this value of a label: an answer on its way to be published, or what it took, on its way back
 abbrev pub holds : ℕ → Option Addr → Doing → ℕ
@@ -100,13 +93,14 @@ holds x v _ = 0
 abbrev pub holding : ℕ → Option Addr → Account → ℕ
 holding x v a = holds x v a.doing
 
--- whether it holds an address beside the objects in hand
-abbrev pub is_at : ℕ → Option Addr → Bool
-is_at a None = false
-is_at a (Some b) = b.0 == a
+-- whether a label's meaning names an address
+abbrev pub named_at : ℕ → NameState → ℕ
+named_at a (name.Published (Some b)) = bit (b.0 == a)
+named_at a _ = 0
 
+-- whether it holds an address beside the objects in hand: one that it is to publish under a label, or that it took
 abbrev pub loose : ℕ → Doing → ℕ
-loose a (Publishes label value) = bit (is_at a value)
+loose a (Publishes label value) = named_at a (name.Published value)
 loose a (Holds label addr) = bit (addr.0 == a)
 loose a _ = 0
 
@@ -131,26 +125,18 @@ clearing s x = spans_like s x.clears
 -- of a label's meaning
 abbrev pub is_unpublished : NameState → Bool
 is_unpublished name.Unpublished = true
-is_unpublished (name.Published value) = false
-is_unpublished name.Taken = false
+is_unpublished _ = false
 
 abbrev pub is_out : NameState → Bool
 is_out state = not (is_unpublished state)
 
 abbrev pub is_taken : NameState → Bool
-is_taken name.Unpublished = false
-is_taken (name.Published value) = false
 is_taken name.Taken = true
+is_taken _ = false
 
 abbrev pub means : Option Addr → NameState → Bool
-means v name.Unpublished = false
 means v (name.Published value) = same_value value v
-means v name.Taken = false
-
-abbrev pub named_at : ℕ → NameState → ℕ
-named_at a name.Unpublished = 0
-named_at a (name.Published value) = bit (is_at a value)
-named_at a name.Taken = 0
+means v _ = false
 
 -- accounts that weigh the same in all this: a call was begun, or nothing of this changed
 pub record WeighSame (a b : Account) : Type 0 where

@@ -5,6 +5,7 @@ use Rattle.tc_units.specs.Arena.{IsInArena}
 use Rattle.tc_units.specs.Classes.{length_of}
 use Rattle.tc_units.specs.declared.units.Addr.{Addr}
 use Rattle.tc_units.specs.declared.units.Label.{Label}
+use Rattle.tc_units.specs.declared.spans.ClassRow.{ClassRow}
 use Rattle.tc_units.specs.declared.spans.Run.{Run}
 use Rattle.tc_units.specs.declared.spans.SpanRef.{SpanRef}
 use Rattle.tc_model.specs.declared.answers.Answer.{Answer}
@@ -39,13 +40,13 @@ pub record IsLarge (b : Books) (x : Extent) : Type 0 where
   pub unmapped : (k : ℕ) → spans_like (small (class_number k) run) b.spans ≡ 0
   pub unheld : (i : ℕ) (a : Account) → slice_get b.accounts i ≡ Some a → spans_of_run run a.apart ≡ 0
 
-pub record IsObject (m : Setup) (b : Books) (x : Extent) : Type 0 where
+pub record IsObject (rows : List ClassRow) (b : Books) (x : Extent) : Type 0 where
   pub class : ℕ
   pub object : 0 < b.stock.objects class x.addr
-  pub size : x.len ≡ size_of m.rows class
+  pub size : x.len ≡ size_of rows class
 
-abbrev pub IsStanding : Setup → Books → Extent → Type 0
-IsStanding m b x = IsLarge b x ⊎ IsObject m b x
+abbrev pub IsStanding : List ClassRow → Books → Extent → Type 0
+IsStanding rows b x = IsLarge b x ⊎ IsObject rows b x
 
 -- What one account keeps of itself: what it frees is in its hand, its spans are of classes, each of them the map's or off
 -- the map, and a run off the map is a span's or what its label holds, as is a run that it is to clear.
@@ -66,7 +67,7 @@ pub record IsRun (huge : ℕ) (r : Run) : Type 0 where
 pub record Facts (m : Setup) (b : Books) (calls : List CallLine) : Type 0 where
   -- the calls are a run on disjoint blocks, each of which is a live run's or an object
   pub kept : AreKept (length_of m.rows) m.huge calls
-  pub live : All (IsStanding m b) (blocks_after calls)
+  pub live : All (IsStanding m.rows b) (blocks_after calls)
   -- live runs lie in the arena, no two of them meet, and no two begin at one address
   pub inside : (r : Run) → 0 < runs_like r b.heap → IsRun m.huge r
   pub disjoint : (r x : Run) → 0 < runs_like r b.heap → 0 < runs_like x b.heap → same_run r x ≡ false → meets (block_of r) (block_of x) ≡ false

@@ -2,7 +2,7 @@
 use Rattle.std.specs.Prelude.{◌≡◌, ℕ, ◌<◌, true, false, List, Option, Some, None, is_some, All, find, ◌==◌}
 use Rattle.tc_units.specs.declared.units.Addr.{Addr}
 use Rattle.tc_model.specs.declared.answers.Answer.{Answer}
-use Rattle.tc_model.specs.declared.answers.Answer.TheVariants.{Block, NoBlock, Freed, FreedNull, Released, Drained, Busy, CapSet, OverLimit, OverStatic}
+use Rattle.tc_model.specs.declared.answers.Answer.TheVariants.{Block, NoBlock}
 use Rattle.tc_model.specs.declared.answers.CallLine.{CallLine}
 use Rattle.tc_model.specs.Blocks.{Extent, IsBlockRun, blocks_after, answer_to, freed_in}
 
@@ -30,12 +30,4 @@ pub record AreKept (round : ℕ → ℕ) (huge : ℕ) (calls : List CallLine) : 
 -- what an answer gives to its label
 abbrev pub value_of : Answer → Option Addr
 value_of (Block addr len) = Some addr
-value_of NoBlock = None
-value_of (Freed addr) = None
-value_of FreedNull = None
-value_of (Released pages) = None
-value_of (Drained objects) = None
-value_of (Busy owner) = None
-value_of CapSet = None
-value_of (OverLimit sum) = None
-value_of (OverStatic cap) = None
+value_of answer = None

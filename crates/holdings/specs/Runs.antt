@@ -41,9 +41,8 @@ same_run a b = a.first.0 == b.first.0 && a.pages == b.pages
 
 abbrev pub same_kind : SpanKind → SpanKind → Bool
 same_kind Large Large = true
-same_kind Large (Small k) = false
-same_kind (Small j) Large = false
 same_kind (Small j) (Small k) = j.0 == k.0
+same_kind _ _ = false
 
 abbrev pub same_span : SpanRef → SpanRef → Bool
 same_span a b = same_run (run_of a) (run_of b) && same_kind a.kind b.kind

@@ -1,5 +1,6 @@
 -- Rows of regions in their order: which one has a hugepage, and what stays where one changes, comes or leaves.
-use Rattle.std.proofs.Common.{◌≡◌, ℕ, zero, suc, ◌+◌, ◌-◌, ◌*◌, ◌<◌, ◌≤◌, Bool, true, false, cond, ◌==◌, not, List, [], ◌∷◌, length, get_or, set, insert, remove, map, filter, Option, Some, None, All, Contains, refl, sym, ap, ◌∙◌, inl, inr, arith}
+use Rattle.std.proofs.Common.{◌≡◌, ℕ, zero, suc, ◌+◌, ◌-◌, ◌*◌, ◌<◌, ◌≤◌, Bool, true, false, cond, ◌==◌, not, List, [], ◌∷◌, length, get_or, set}
+use Rattle.std.proofs.Common.{insert, remove, map, filter, Option, Some, None, All, Contains, refl, sym, ap, ◌∙◌, inl, inr, arith}
 use Rattle.huge_region.proofs.Common.{get_or_default, find, suc-mul, cases_Bool, cases_lt, lt-ltb, le-ltb, eq-eqb, ne_eqb, nat_tests, none-some}
 use Rattle.huge_region.proofs.Common.{same_Some, All-head, All-tail, spans, RegionRow, AreApartFrom}
 use Rattle.tc_units.specs.Sorted.{with_item, without_key}
@@ -41,12 +42,15 @@ module _ (w : ℕ) where
   lower from low (r ∷ rows) l apart = (omega (arith, apart.0), apart.1)
 
   -- the row at a place has its hugepages, and none has one between two rows
-  pub found_there : (from h : ℕ) (rows : List RegionRow) (i : ℕ) (d : RegionRow) → AreApartFrom w from rows → i < length rows → (get_or rows i d).first ≤ h → h < (get_or rows i d).first + w → with_huge h rows ≡ Some (get_or rows i d)
+  pub found_there : (from h : ℕ) (rows : List RegionRow) (i : ℕ) (d : RegionRow) → AreApartFrom w from rows → i < length rows → (get_or rows i d).first ≤ h
+      → h < (get_or rows i d).first + w → with_huge h rows ≡ Some (get_or rows i d)
   found_there from h [] i d apart l low high = absurd (omega arith)
   found_there from h (r ∷ rows) zero d apart l low high = rw (spans_from w h r.first low high) refl
-  found_there from h (r ∷ rows) (suc i) d apart l low high = rw (spans_behind w h r.first (omega (arith, begins (r.first + w) rows i d apart.1 (omega arith)))) (found_there (r.first + w) h rows i d apart.1 (omega arith) low high)
+  found_there from h (r ∷ rows) (suc i) d apart l low high =
+      rw (spans_behind w h r.first (omega (arith, begins (r.first + w) rows i d apart.1 (omega arith)))) (found_there (r.first + w) h rows i d apart.1 (omega arith) low high)
 
-  found_nowhere : (from h : ℕ) (rows : List RegionRow) → AreApartFrom w from rows → ((i : ℕ) (d : RegionRow) → i < length rows → (get_or rows i d).first ≤ h → (get_or rows i d).first + w ≤ h) → with_huge h rows ≡ None
+  found_nowhere : (from h : ℕ) (rows : List RegionRow) → AreApartFrom w from rows → ((i : ℕ) (d : RegionRow) → i < length rows
+      → (get_or rows i d).first ≤ h → (get_or rows i d).first + w ≤ h) → with_huge h rows ≡ None
   found_nowhere from h [] apart none = refl
   found_nowhere from h (r ∷ rows) apart none =
       let rest = found_nowhere (r.first + w) h rows apart.1 (λ i d l. none (suc i) d (omega arith)) in
@@ -65,7 +69,8 @@ module _ (w : ℕ) where
   in_order from rows i j d apart l k = omega (arith, apart_by from rows i j d apart l k)
 
   -- so where all begin behind it from a place on, and the one before that place ends before it
-  pub none_behind : (from h b : ℕ) (rows : List RegionRow) → AreApartFrom w from rows → b ≤ length rows → ((i : ℕ) (d : RegionRow) → b ≤ i → i < length rows → h < (get_or rows i d).first) → ((i : ℕ) (d : RegionRow) → i + 1 ≡ b → (get_or rows i d).first + w ≤ h) → with_huge h rows ≡ None
+  pub none_behind : (from h b : ℕ) (rows : List RegionRow) → AreApartFrom w from rows → b ≤ length rows → ((i : ℕ) (d : RegionRow) → b ≤ i
+      → i < length rows → h < (get_or rows i d).first) → ((i : ℕ) (d : RegionRow) → i + 1 ≡ b → (get_or rows i d).first + w ≤ h) → with_huge h rows ≡ None
   none_behind from h b rows apart inside behind before =
       found_nowhere from h rows apart (λ i d l first.
       elim (cases_lt i b) [
@@ -77,7 +82,8 @@ module _ (w : ℕ) where
       ])
 
   -- A row changes, by its first hugepage.
-  pub at_place : (from : ℕ) (rows : List RegionRow) (i : ℕ) (change : RegionRow → RegionRow) (d : RegionRow) → AreApartFrom w from rows → 0 < w → i < length rows → map (λ r. cond (r.first == (get_or rows i d).first) (change r) r) rows ≡ set rows i (change (get_or rows i d))
+  pub at_place : (from : ℕ) (rows : List RegionRow) (i : ℕ) (change : RegionRow → RegionRow) (d : RegionRow) → AreApartFrom w from rows → 0 < w
+      → i < length rows → map (λ r. cond (r.first == (get_or rows i d).first) (change r) r) rows ≡ set rows i (change (get_or rows i d))
   at_place from [] i change d apart some l = absurd (omega arith)
   at_place from (r ∷ rows) zero change d apart some l =
       rw (eq-eqb r.first r.first refl) (ap (λ rs. change r ∷ rs) (others (r.first + w) r.first rows change apart.1 (omega arith)))
@@ -93,21 +99,27 @@ module _ (w : ℕ) where
   apart_set from (x ∷ rows) (suc i) r d same apart = (apart.0, apart_set (x.first + w) rows i r d same apart.1)
 
   -- A row comes, whose hugepages no other one has: behind all that begin before it.
-  pub inserted_is : (rows : List RegionRow) (b : ℕ) (r d : RegionRow) → b ≤ length rows → ((i : ℕ) (d : RegionRow) → i < b → (get_or rows i d).first ≤ r.first) → ((i : ℕ) (d : RegionRow) → b ≤ i → i < length rows → r.first < (get_or rows i d).first) → with_item (λ (x : RegionRow). x.first) r rows ≡ insert rows b r
+  pub inserted_is : (rows : List RegionRow) (b : ℕ) (r d : RegionRow) → b ≤ length rows → ((i : ℕ) (d : RegionRow) → i < b
+      → (get_or rows i d).first ≤ r.first) → ((i : ℕ) (d : RegionRow) → b ≤ i → i < length rows → r.first < (get_or rows i d).first)
+      → with_item (λ (x : RegionRow). x.first) r rows ≡ insert rows b r
   inserted_is [] zero r d inside before behind = refl
   inserted_is [] (suc b) r d inside before behind = absurd (omega arith)
   inserted_is (x ∷ rows) zero r d inside before behind = rw (lt-ltb r.first x.first (behind 0 d (omega arith) (omega arith))) refl
   inserted_is (x ∷ rows) (suc b) r d inside before behind =
       rw (le-ltb r.first x.first (before 0 d (omega arith))) (ap (λ rs. x ∷ rs) (inserted_is rows b r d (omega arith) (λ i e l. before (suc i) e (omega arith)) (λ i e l k. behind (suc i) e (omega arith) (omega arith))))
 
-  pub apart_with : (from : ℕ) (rows : List RegionRow) (r : RegionRow) → AreApartFrom w from rows → 0 < w → from ≤ r.first → ((h : ℕ) → r.first ≤ h → h < r.first + w → with_huge h rows ≡ None) → AreApartFrom w from (with_item (λ (x : RegionRow). x.first) r rows)
+  pub apart_with : (from : ℕ) (rows : List RegionRow) (r : RegionRow) → AreApartFrom w from rows → 0 < w → from ≤ r.first
+      → ((h : ℕ) → r.first ≤ h → h < r.first + w → with_huge h rows ≡ None) → AreApartFrom w from (with_item (λ (x : RegionRow). x.first) r rows)
   apart_with from [] r apart some low free = (low, tt)
   apart_with from (x ∷ rows) r apart some low free =
-      let passed : (h : ℕ) → r.first ≤ h → h < r.first + w → x.first ≤ h → x.first + w ≤ h = λ h a b l. elim (cases_lt h (x.first + w)) [ inl in_it ↦ absurd (none-some x (sym (free h a b) ∙ rw (spans_from w h x.first l in_it) refl)) | inr past ↦ past ] in
+      let passed : (h : ℕ) → r.first ≤ h → h < r.first + w → x.first ≤ h → x.first + w ≤ h =
+          λ h a b l. elim (cases_lt h (x.first + w)) [ inl in_it ↦ absurd (none-some x (sym (free h a b)
+          ∙ rw (spans_from w h x.first l in_it) refl)) | inr past ↦ past ] in
       grind (arith, nat_tests, apart_with (x.first + w) rows r apart.1 some, passed x.first, passed r.first, spans_behind w, free)
 
   -- A row leaves.
-  pub removed_is : (from : ℕ) (rows : List RegionRow) (i : ℕ) (d : RegionRow) → AreApartFrom w from rows → 0 < w → i < length rows → without_key (λ (x : RegionRow). x.first) (get_or rows i d).first rows ≡ remove rows i
+  pub removed_is : (from : ℕ) (rows : List RegionRow) (i : ℕ) (d : RegionRow) → AreApartFrom w from rows → 0 < w → i < length rows
+      → without_key (λ (x : RegionRow). x.first) (get_or rows i d).first rows ≡ remove rows i
   removed_is from [] i d apart some l = absurd (omega arith)
   removed_is from (r ∷ rows) zero d apart some l =
       rw (eq-eqb r.first r.first refl) (others (r.first + w) r.first rows apart.1 (omega arith))

@@ -1,8 +1,8 @@
 -- The region whose key is found is the preferred one, and the place in it.
-use Rattle.std.proofs.Common.{◌≡◌, ℕ, ◌+◌, ◌*◌, ◌/◌, ◌<◌, ◌≤◌, true, false, not, nat_lt, nat_eq, List, get_or, filter, Some, None, All, Contains, sym, ap, subst, ◌∙◌, inl, inr, arith}
+use Rattle.std.proofs.Common.{◌≡◌, ℕ, ◌+◌, ◌*◌, ◌/◌, ◌<◌, ◌≤◌, true, false, not, nat_lt, nat_eq, List, get_or, filter, Some, None, All, Contains, refl, sym, ap, subst, ◌∙◌, inl, inr, arith}
 use Rattle.huge_region.proofs.Common.{list_all, cases_Bool, cases_lt, le-leb, lt-leb, leb-true, not_from_false, not-true, nat_tests, All-contains, All-filter}
 use Rattle.huge_region.proofs.Common.{All-contains_itself, filter_passes, Contains-get_or, none-some, longest, best, first_least, best_is_fit}
-use Rattle.huge_region.proofs.Common.{RegionRow, is_preferred, has_room, region_place, place_in_region, row_held, key_held, RegionKey, Inside, comes_before}
+use Rattle.huge_region.proofs.Common.{RegionRow, is_preferred, has_room, region_place, row_held, key_held, RegionKey, Inside, comes_before}
 use Rattle.huge_region.proofs.Common.{total, IsSound, IsInside, regions_of, key_of, Regions, region_with, start_in, AreFreeIn}
 use Rattle.std.proofs.lemmas.List.Sums.{list_all-from_AllPass, AllPass-from_list_all}
 use Rattle.range_bits.proofs.RangeLemmas.{filter-none}
@@ -36,7 +36,8 @@ pub record IsChosen (all : Regions) (n h : ℕ) (r : RegionRow) : Type 0 where
   pub has : HasHuge all h r
   pub least : first_least is_preferred (filter (has_room n) all.rows) ≡ Some r
 
-pub chosen : (all : Regions) (keys : List RegionKey) (n : ℕ) (key : RegionKey) → IsSound all → IsIndexOf key_of all.rows keys → IsFirstFrom comes_before keys (least_of n) key → (r : RegionRow) × IsChosen all n key.first.0 r
+pub chosen : (all : Regions) (keys : List RegionKey) (n : ℕ) (key : RegionKey) → IsSound all → IsIndexOf key_of all.rows keys
+    → IsFirstFrom comes_before keys (least_of n) key → (r : RegionRow) × IsChosen all n key.first.0 r
 chosen all keys n key sound index is =
     let there = row_held comes_before total key_of all.rows keys key index is.held in
     let r : RegionRow = there.0 in
@@ -49,7 +50,9 @@ chosen all keys n key sound index is =
     let x : RegionRow = get_or (filter (has_room n) all.rows) i d in
     let in_rows : Contains all.rows x = All-filter (has_room n) (Contains all.rows) all.rows (All-contains_itself all.rows) i d l in
     let long_too : n ≤ longest x.used = leb-true n (longest x.used) (filter_passes (has_room n) all.rows i d l) in
-    let after : comes_before (key_of x) (key_of r) ≡ false = subst (λ (k : RegionKey). comes_before (key_of x) k ≡ false) (sym there.2) (All-contains (λ k. comes_before k (least_of n) ≡ false → comes_before k key ≡ false) keys (key_of x) is.first (key_held comes_before total key_of all.rows keys x index in_rows) (not_before n (key_of x) long_too)) in
+    let after : comes_before (key_of x) (key_of r) ≡ false =
+        subst (λ (k : RegionKey). comes_before (key_of x) k ≡ false) (sym there.2) (All-contains (λ k. comes_before k (least_of n) ≡ false
+        → comes_before k key ≡ false) keys (key_of x) is.first (key_held comes_before total key_of all.rows keys x index in_rows) (not_before n (key_of x) long_too)) in
     elim (cases_Bool (comes_before (key_of r) (key_of x))) [
       | inl before ↦ inr (preferred_is r x ∙ before, preferred_is x r ∙ after)
       | inr level ↦ inl (one_region all x r sound in_rows held (ap (λ (k : RegionKey). k.first.0) (total.same (key_of x) (key_of r) after level)))
@@ -65,11 +68,13 @@ chosen all keys n key sound index is =
     )
 
 -- as it is found in what is kept
-pub chosen_by : (t : Inside) (now : Regions) (n : ℕ) (key : RegionKey) → IsInside t → regions_of t ≡ now → IsFirstFrom comes_before t.keys.keys (least_of n) key → (r : RegionRow) × IsChosen now n key.first.0 r
+pub chosen_by : (t : Inside) (now : Regions) (n : ℕ) (key : RegionKey) → IsInside t → regions_of t ≡ now
+    → IsFirstFrom comes_before t.keys.keys (least_of n) key → (r : RegionRow) × IsChosen now n key.first.0 r
 chosen_by t now n key kept view is = subst (λ (x : Regions). (r : RegionRow) × IsChosen x n key.first.0 r) view (chosen (regions_of t) t.keys.keys n key kept.0.sound kept.0.keys_are is)
 
 -- where no key is long enough, no region has room, and none is placed in
-pub none_chosen : (all : Regions) (keys : List RegionKey) (n : ℕ) → IsIndexOf key_of all.rows keys → All (λ k. comes_before k (least_of n) ≡ true) keys → list_all (λ row. not (has_room n row)) all.rows ≡ true
+pub none_chosen : (all : Regions) (keys : List RegionKey) (n : ℕ) → IsIndexOf key_of all.rows keys → All (λ k. comes_before k (least_of n) ≡ true) keys
+    → list_all (λ row. not (has_room n row)) all.rows ≡ true
 none_chosen all keys n index none =
     list_all-from_AllPass (λ row. not (has_room n row)) all.rows (λ i d l.
     let r : RegionRow = get_or all.rows i d in
@@ -80,7 +85,7 @@ no_place : (rows : List RegionRow) (n : ℕ) → list_all (λ row. not (has_room
 no_place rows n all = ap (first_least is_preferred) (filter-none (has_room n) rows (λ i d l. not-true (has_room n (get_or rows i d)) (AllPass-from_list_all (λ row. not (has_room n row)) rows all i d l)))
 
 pub placed_nowhere : (rows : List RegionRow) (n : ℕ) → list_all (λ row. not (has_room n row)) rows ≡ true → region_place rows n ≡ None
-placed_nowhere rows n all = ap (place_in_region n) (no_place rows n all)
+placed_nowhere rows n all = rw (no_place rows n all) refl
 
 pub some_has_room : (all : Regions) (n h : ℕ) (r : RegionRow) → IsChosen all n h r → list_all (λ row. not (has_room n row)) all.rows ≡ true → ⊥
 some_has_room all n h r is none = none-some r (sym (no_place all.rows n none) ∙ is.least)

@@ -1,6 +1,6 @@
 -- The names of the crates below that most proofs here cite, passed on from one place. Declares nothing.
 pub use Rattle.heap_rules.specs.Heap.{spans}
-pub use Rattle.heap_rules.specs.RegionRows.{has_room, is_preferred, place_in_region, region_place, RegionRow}
+pub use Rattle.heap_rules.specs.RegionRows.{has_room, is_preferred, region_place, RegionRow}
 pub use Rattle.huge_region.specs.Kept.{AreApartFrom, IsInside, IsKept, IsSound, IsSpare, key_of, regions_of}
 pub use Rattle.huge_region.specs.Order.{comes_before}
 pub use Rattle.huge_region.specs.Regions.{AreFreeIn, AreUsedIn, is_unused, joined, region_with, Regions, start_in, unused, with_changed, with_region}

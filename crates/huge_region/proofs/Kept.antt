@@ -1,5 +1,6 @@
 -- What is kept of regions and beside them, where one changes, comes or leaves.
-use Rattle.std.proofs.Common.{◌≡◌, ℕ, ◌+◌, ◌*◌, ◌/◌, ◌<◌, ◌≤◌, Bool, true, false, ◌==◌, not, cond, List, [], ◌∷◌, ◌++◌, length, get_or, set, insert, remove, filter, replicate, Some, None, Contains, IsPermutation, refl, sym, ap, subst, ◌∙◌, arith}
+use Rattle.std.proofs.Common.{◌≡◌, ℕ, ◌+◌, ◌*◌, ◌/◌, ◌<◌, ◌≤◌, Bool, true, false, ◌==◌, not, cond, List, [], ◌∷◌, ◌++◌, length, get_or, set, insert}
+use Rattle.std.proofs.Common.{remove, filter, replicate, Some, None, Contains, IsPermutation, refl, sym, ap, subst, ◌∙◌, arith}
 use Rattle.huge_region.proofs.Common.{nat_tests, eqb-true, same_Some, length-set, length-replicate, length_push, All-contains}
 use Rattle.huge_region.proofs.Common.{All-set, All-push, All-pop, All-filter, huge_pages, used_count, with_places, RegionRow, index_more, index_fewer}
 use Rattle.huge_region.proofs.Common.{index_changed, key_held, RegionKey, Inside, comes_before, total, IsSound, IsKept, IsSpare, IsInside, regions_of, key_of}
@@ -45,11 +46,13 @@ pub record Stands (v : Regions) (h place : ℕ) (r : RegionRow) : Type 0 where
   pub found : region_with v h ≡ Some r
   pub has : HasHuge v h r
 
-pub stands : (v now : Regions) (h place : ℕ) (r : RegionRow) → v ≡ now → IsSound v → place < length now.rows → ((d : RegionRow) → region_with now h ≡ Some (get_or now.rows place d)) → r ≡ get_or v.rows place r → Stands v h place r
+pub stands : (v now : Regions) (h place : ℕ) (r : RegionRow) → v ≡ now → IsSound v → place < length now.rows
+    → ((d : RegionRow) → region_with now h ≡ Some (get_or now.rows place d)) → r ≡ get_or v.rows place r → Stands v h place r
 stands v now h place r same sound inside found value = grind (arith, nat_tests, region_with, has_huge)
 
 -- the key of a region that stands there is held
-pub held_key : (v : Regions) (keys : Contents RegionKey) (spare : List RegionRow) (h place : ℕ) (r : RegionRow) (key : RegionKey) → IsKept v keys spare → Stands v h place r → key ≡ key_of r → Contains keys.keys key
+pub held_key : (v : Regions) (keys : Contents RegionKey) (spare : List RegionRow) (h place : ℕ) (r : RegionRow) (key : RegionKey) → IsKept v keys spare
+    → Stands v h place r → key ≡ key_of r → Contains keys.keys key
 held_key v keys spare h place r key kept at is = subst (λ (k : RegionKey). Contains keys.keys k) (sym is) (key_held comes_before total key_of v.rows keys.keys r kept.keys_are at.has.held)
 
 abbrev passing : (RegionKey → Bool) → RegionRow → ℕ
@@ -61,7 +64,8 @@ pub record Became (v : Regions) (keys : Contents RegionKey) (spare rows : List R
   pub view : with_rows v rows ≡ goal
 
 -- what is answered of a region that was read, and by which the pages of one are in the arena
-pub read_there : (t : Inside) (now : Regions) (h place : ℕ) (r x : RegionRow) → regions_of t ≡ now → region_with now h ≡ Some r → ((d : RegionRow) → region_with now h ≡ Some (get_or now.rows place d)) → x ≡ get_or t.regions.items place x → r ≡ x
+pub read_there : (t : Inside) (now : Regions) (h place : ℕ) (r x : RegionRow) → regions_of t ≡ now → region_with now h ≡ Some r
+    → ((d : RegionRow) → region_with now h ≡ Some (get_or now.rows place d)) → x ≡ get_or t.regions.items place x → r ≡ x
 read_there t now h place r x view found all value = same_Some r x (sym found ∙ all x ∙ ap (λ (y : Regions). Some (get_or y.rows place x)) (sym view) ∙ ap (λ (y : RegionRow). Some y) (sym value))
 
 pub in_arena : (t : Inside) (now : Regions) (page : ℕ) (r : RegionRow) → IsInside t → regions_of t ≡ now → region_with now (page / huge_pages) ≡ Some r → page < 1048832
@@ -74,7 +78,10 @@ pub record IsPut (t : Inside) (now : Regions) (keys : Contents RegionKey) (place
   pub kept : IsKept (with_rows (regions_of t) (set t.regions.items place new)) keys t.spare.items
   pub view : (r : RegionRow) → region_with now (page / huge_pages) ≡ Some r → with_rows (regions_of t) (set t.regions.items place new) ≡ with_changed now r.first (put_in (start_in r page) n b)
 
-pub put : (t : Inside) (now : Regions) (keys' : Contents RegionKey) (h place page n : ℕ) (b : Bool) (old new : RegionRow) (before after : RegionKey) → IsInside t → regions_of t ≡ now → Stands (regions_of t) h place old → h ≡ page / huge_pages → new ≡ put_in (start_in old page) n b old → length new.used ≡ length old.used → before ≡ key_of old → after ≡ key_of new → IsPermutation (after ∷ t.keys.keys) (before ∷ keys'.keys) → keys'.spare ≡ t.keys.spare → IsPut t now keys' place page n b new
+pub put : (t : Inside) (now : Regions) (keys' : Contents RegionKey) (h place page n : ℕ) (b : Bool) (old new : RegionRow) (before after : RegionKey)
+    → IsInside t → regions_of t ≡ now → Stands (regions_of t) h place old → h ≡ page / huge_pages → new ≡ put_in (start_in old page) n b old
+    → length new.used ≡ length old.used → before ≡ key_of old → after ≡ key_of new → IsPermutation (after ∷ t.keys.keys) (before ∷ keys'.keys)
+    → keys'.spare ≡ t.keys.spare → IsPut t now keys' place page n b new
 put t now keys' h place page n b old new before after inside same at there is size from to moved room =
     let v : Regions = regions_of t in
     let rows = v.rows in
@@ -110,11 +117,14 @@ pub record IsNew (v : Regions) (first b : ℕ) : Type 0 where
   pub before : (i : ℕ) (d : RegionRow) → i < b → (get_or v.rows i d).first ≤ first
   pub behind : (i : ℕ) (d : RegionRow) → b ≤ i → i < length v.rows → first < (get_or v.rows i d).first
 
-pub new_there : (v now : Regions) (first b : ℕ) (rows : List RegionRow) → v ≡ now → rows ≡ v.rows → 0 < first → first + now.width ≤ now.huge + 1 → ((h : ℕ) → first ≤ h → h < first + now.width → region_with now h ≡ None) → b ≤ length rows → ((i : ℕ) (d : RegionRow) → i < b → (get_or rows i d).first ≤ first) → ((i : ℕ) (d : RegionRow) → b ≤ i → i < length rows → first < (get_or rows i d).first) → IsNew v first b
+pub new_there : (v now : Regions) (first b : ℕ) (rows : List RegionRow) → v ≡ now → rows ≡ v.rows → 0 < first → first + now.width ≤ now.huge + 1
+    → ((h : ℕ) → first ≤ h → h < first + now.width → region_with now h ≡ None) → b ≤ length rows → ((i : ℕ) (d : RegionRow) → i < b
+    → (get_or rows i d).first ≤ first) → ((i : ℕ) (d : RegionRow) → b ≤ i → i < length rows → first < (get_or rows i d).first) → IsNew v first b
 new_there v now first b rows view value low high free within before behind = grind (arith, nat_tests)
 
 -- the regions with it are sound, and as many as there is room for
-pub comes : (v : Regions) (first b : ℕ) → IsSound v → IsNew v first b → IsSound (with_region v first) × (with_region v first ≡ with_rows v (insert v.rows b (unused v.width first))) × (length v.rows + 1 ≤ v.huge / v.width)
+pub comes : (v : Regions) (first b : ℕ) → IsSound v → IsNew v first b → IsSound (with_region v first)
+    × (with_region v first ≡ with_rows v (insert v.rows b (unused v.width first))) × (length v.rows + 1 ≤ v.huge / v.width)
 comes v first b sound new =
     let w = v.width in
     let r : RegionRow = unused w first in
@@ -130,7 +140,9 @@ comes v first b sound new =
       length-with_item key r v.rows,
     )
 
-pub came : (v : Regions) (keys keys' : Contents RegionKey) (spare spare' rows' : List RegionRow) (first b : ℕ) (region new : RegionRow) (key : RegionKey) → IsKept v keys spare → IsNew v first b → spare ≡ spare' ++ region ∷ [] → new ≡ record region { first = first } → rows' ≡ insert v.rows b new → key ≡ key_of new → IsPermutation (key ∷ keys.keys) keys'.keys → keys'.spare + 1 ≡ keys.spare → Became v keys' spare' rows' (with_region v first)
+pub came : (v : Regions) (keys keys' : Contents RegionKey) (spare spare' rows' : List RegionRow) (first b : ℕ) (region new : RegionRow) (key : RegionKey)
+    → IsKept v keys spare → IsNew v first b → spare ≡ spare' ++ region ∷ [] → new ≡ record region { first = first } → rows' ≡ insert v.rows b new
+    → key ≡ key_of new → IsPermutation (key ∷ keys.keys) keys'.keys → keys'.spare + 1 ≡ keys.spare → Became v keys' spare' rows' (with_region v first)
 came v keys keys' spare spare' rows' first b region new key kept there spared is inserted key_is moved room =
     let w = v.width in
     let parts = All-pop (IsSpare w) spare spare' (Some region) spared kept.unused in
@@ -151,12 +163,15 @@ none_used : (row : List Bool) → used_count row ≡ 0 → row ≡ replicate (le
 none_used [] none = refl
 none_used (u ∷ row) none = grind (arith, nat_tests, none_used row, sum_by-cons (λ (x : Bool). cond x 1 0) u row)
 
-pub gone : (v : Regions) (keys keys' : Contents RegionKey) (spare spare' rows' : List RegionRow) (h place : ℕ) (old : RegionRow) (key : RegionKey) → IsKept v keys spare → Stands v h place old → is_unused old ≡ true → key ≡ key_of old → IsPermutation keys.keys (key ∷ keys'.keys) → keys'.spare ≡ keys.spare + 1 → rows' ≡ remove v.rows place → spare' ≡ spare ++ old ∷ [] → Became v keys' spare' rows' (without_region v old.first)
+pub gone : (v : Regions) (keys keys' : Contents RegionKey) (spare spare' rows' : List RegionRow) (h place : ℕ) (old : RegionRow) (key : RegionKey)
+    → IsKept v keys spare → Stands v h place old → is_unused old ≡ true → key ≡ key_of old → IsPermutation keys.keys (key ∷ keys'.keys)
+    → keys'.spare ≡ keys.spare + 1 → rows' ≡ remove v.rows place → spare' ≡ spare ++ old ∷ [] → Became v keys' spare' rows' (without_region v old.first)
 gone v keys keys' spare spare' rows' h place old key kept at empty key_is moved room removed spared =
     let w = v.width in
     let sound = kept.sound in
     let stays : RegionRow → Bool = λ x. not (x.first == old.first) in
-    let rows_are : rows' ≡ filter stays v.rows = removed ∙ sym (removed_is w 1 v.rows place old sound.apart (omega (arith, sound.wide)) at.inside) ∙ ap (λ (r : RegionRow). without_key (λ (x : RegionRow). x.first) r.first v.rows) at.is in
+    let rows_are : rows' ≡ filter stays v.rows = removed ∙ sym (removed_is w 1 v.rows place old sound.apart (omega (arith, sound.wide)) at.inside)
+        ∙ ap (λ (r : RegionRow). without_key (λ (x : RegionRow). x.first) r.first v.rows) at.is in
     let high : RegionRow → Type 0 = λ x. x.first + w ≤ v.huge + 1 in
     let sized : RegionRow → Type 0 = λ x. length x.used ≡ huge_pages * w in
     record {

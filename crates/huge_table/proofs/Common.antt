@@ -5,10 +5,10 @@ pub use Rattle.heap_rules.proofs.Fits.{spans_reaches, unreached_unheld}
 pub use Rattle.heap_rules.proofs.Left.{count_rest, none_reach, own_run, same_member, some_reach}
 pub use Rattle.heap_rules.proofs.Places.{at-each, at-place, backs-map, backs-whole, each_each, each_is, each_where, length-each, page_of, same_pages}
 pub use Rattle.heap_rules.specs.Free.{emptied, given_back, left, left_by, used_regions, without_unused_regions}
-pub use Rattle.heap_rules.specs.Heap.{Heap, Hugepage, allocation_count, backed_count, backs, each, holds, hugepage, is_filler, is_free, is_kind_filler}
-pub use Rattle.heap_rules.specs.Heap.{is_kind_free, is_kind_region, is_region, is_used, opened, pages_of, reaches, row_of, run_at, spans, untouched}
+pub use Rattle.heap_rules.specs.Heap.{Heap, Hugepage, allocation_count, backed_count, backs, each, holds, hugepage, is_filler, is_free}
+pub use Rattle.heap_rules.specs.Heap.{is_kind, is_region, is_used, opened, pages_of, reaches, row_of, run_at, spans, untouched}
 pub use Rattle.heap_rules.specs.Heap.{used_row, whole, with_run, without_run}
-pub use Rattle.heap_rules.specs.New.{all_backed, filler_page, more_backed, placed, region_page, run_or_tail, run_page, with_new_region, with_region}
+pub use Rattle.heap_rules.specs.New.{all_backed, filler_page, more_backed, placed, region_page, run_or_tail, run_page, with_new_region}
 pub use Rattle.heap_rules.specs.Sound.{AreRunsSound, HasOneRun, IsInside, IsPageOf, IsSound}
 pub use Rattle.huge_table.specs.Means.{IsEnding, Means, begins_on, ends_on, is_run, is_shared, shares, taken, unbacked_span, used_alone}
 pub use Rattle.huge_table.specs.Table.{AreKept, HasBits, IsNoted, IsSpan, Table, bit, by_bits, emptied_where, free_page, hugepage_of, is_between, is_even}

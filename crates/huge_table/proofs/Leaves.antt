@@ -2,7 +2,7 @@
 use Rattle.std.proofs.Common.{◌≡◌, ℕ, ◌+◌, ◌*◌, ◌/◌, ◌<◌, ◌≤◌, ◌==◌, Bool, true, false, not, cond, eqb, List, length, map, Contains, refl, sym, ap}
 use Rattle.std.proofs.Common.{subst, ◌∙◌, inl, inr, arith}
 use Rattle.huge_table.proofs.Common.{cases_lt, cases_eq, ne_eqb, false≢true, length-map-range_with_len, get_or-map-range_with_len, Run, RowKind, count_none}
-use Rattle.huge_table.proofs.Common.{used_count, Heap, Hugepage, hugepage, each, spans, reaches, holds, is_used, is_filler, is_region, is_kind_region, used_row}
+use Rattle.huge_table.proofs.Common.{used_count, Heap, Hugepage, hugepage, each, spans, reaches, holds, is_used, is_filler, is_region, is_kind, used_row}
 use Rattle.huge_table.proofs.Common.{allocation_count, run_at, without_run, pages_of, left_by, left, given_back, IsPageOf, IsSound, length-each, each_is}
 use Rattle.huge_table.proofs.Common.{reaches_parts, serves_at, is_Region, none_reach, some_reach, own_run, given_is_left, all_used, Table, IsSpan, IsNoted}
 use Rattle.huge_table.proofs.Common.{HasBits, bit, is_between, noted_row, emptied_where, over_span, free_page, Means, is_shared, is_run, shares, nat_tests}
@@ -51,11 +51,11 @@ is_Run k e = grind (arith, nat_tests)
 unnot : (b : Bool) → not b ≡ true → b ≡ false
 unnot b e = grind (arith, nat_tests)
 
-filler_apart : (k : RowKind) → k ≡ kind.Filler → is_kind_region k ≡ false
-filler_apart k e = ap is_kind_region e
+filler_apart : (k : RowKind) → k ≡ kind.Filler → is_kind kind.Region k ≡ false
+filler_apart k e = ap (is_kind kind.Region) e
 
-run_apart : (k : RowKind) → k ≡ kind.Run → is_kind_region k ≡ false
-run_apart k e = ap is_kind_region e
+run_apart : (k : RowKind) → k ≡ kind.Run → is_kind kind.Region k ≡ false
+run_apart k e = ap (is_kind kind.Region) e
 
 -- The run from a page on.
 module _ (heap : Heap) (first n : ℕ) (sound : IsSound heap) (live : Contains heap.runs (run_at first n)) where

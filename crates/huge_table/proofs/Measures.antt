@@ -1,7 +1,7 @@
 -- The measures of a hugepage.
 use Rattle.std.proofs.Common.{◌≡◌, ℕ, ◌+◌, ◌*◌, ◌<◌, ◌≤◌, Bool, true, false, length, get_or, count_by, max, sym, ap, ◌∙◌, arith}
 use Rattle.huge_table.proofs.Common.{false≢true, false_from_ne_true, length-replicate, RowKind, count_le, count_some, longest, Heap, hugepage, whole}
-use Rattle.huge_table.proofs.Common.{holds, reaches, is_used, is_kind_filler, used_row, allocation_count, row_of, HasOneRun, IsSound}
+use Rattle.huge_table.proofs.Common.{holds, reaches, is_used, is_kind, used_row, allocation_count, row_of, HasOneRun, IsSound}
 use Rattle.huge_table.proofs.Common.{backs-whole, serves_at, holds_from, reaches_parts, reaches_from, same_member, is_run, nat_tests}
 use Rattle.std.proofs.lemmas.List.Elements.{Contains-get_or}
 use Rattle.tc_units.specs.declared.rows.RowKind.TheVariants as kind
@@ -52,4 +52,4 @@ run_row_is heap h row sound some inside run e =
     (sym (one_alloc heap sound h serves.0))
     (sym (ap (λ r. count_by (λ b. b) r) serves.1))
     (sym (ap longest (all_used heap sound h serves.0)))
-    (sym (false_from_ne_true x.donated (λ d. false≢true (sym (ap is_kind_filler of_run) ∙ fit.donated d))))
+    (sym (false_from_ne_true x.donated (λ d. false≢true (sym (ap (is_kind kind.Filler) of_run) ∙ fit.donated d))))

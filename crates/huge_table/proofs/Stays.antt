@@ -1,7 +1,8 @@
 -- Hugepages change while no run comes or leaves: regions open and end, and backing is lost.
 use Rattle.std.proofs.Common.{◌≡◌, ℕ, zero, suc, ◌/◌, ◌<◌, ◌≤◌, Bool, true, ◌&&◌, cond, List, length, refl, sym, ap, subst, ◌∙◌, inl, inr, arith}
 use Rattle.huge_table.proofs.Common.{cases_lt, get_or_past, ended, Heap, Hugepage, hugepage, untouched, each, spans, is_used, is_free, is_region}
-use Rattle.huge_table.proofs.Common.{region_page, with_region, with_new_region, used_regions, without_unused_regions, AreRunsSound, at-each, length-each}
+use Rattle.tc_units.specs.Sorted.{with_item}
+use Rattle.huge_table.proofs.Common.{region_page, with_new_region, used_regions, without_unused_regions, AreRunsSound, at-each, length-each}
 use Rattle.huge_table.proofs.Common.{each_where, spans_parts, Table, IsSpan, region_freed, over_span, Means, IsEnding, is_shared, unbacked_span, nat_tests}
 use Rattle.heap_rules.specs.Settle.{unbacked}
 use Rattle.heap_rules.proofs.Places.{at}
@@ -36,9 +37,9 @@ pub opened_means : (t : Table) (heap : Heap) (first width : ℕ) → IsSpan t fi
     Means (over_span first width region_page t) (with_new_region heap first)
 opened_means t heap first width span e means =
     subst (λ w. Means (over_span first width region_page t)
-    (record heap { regions = with_region first heap.regions; hugepages = each (λ h x. cond (spans w h first) (region_page x) x) heap.hugepages }))
+    (record heap { regions = with_item (λ k. k) first heap.regions; hugepages = each (λ h x. cond (spans w h first) (region_page x) x) heap.hugepages }))
     (sym e)
-    (span_means t heap first width region_page is_free (with_region first heap.regions) means span (λ x free. sym (free_shared x free)))
+    (span_means t heap first width region_page is_free (with_item (λ k. k) first heap.regions) means span (λ x free. sym (free_shared x free)))
 
 pub unbacked_means : (t : Table) (heap : Heap) (first many : ℕ) (test : Hugepage → Bool) → IsSpan t first many test → Means t heap →
     Means (over_span first many unbacked t) (unbacked_span heap first many)

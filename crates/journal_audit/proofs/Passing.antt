@@ -1,6 +1,6 @@
 -- What it means that a line passes all rules.
-use Rattle.std.proofs.Common.{◌≡◌, ◌<◌, true, false, List, length, Option, Some, None, Ok, cond, refl, arith}
-use Rattle.std.specs.Option.{option_and_then}
+use Rattle.std.proofs.Common.{◌≡◌, ◌<◌, true, false, List, length, Option, Some, None, Ok, Err, cond, refl, arith}
+use Rattle.std.specs.Option.{option_and_then, option_map_or}
 use Rattle.std.proofs.lemmas.Bool.{cases_Bool}
 use Rattle.std.proofs.lemmas.Bool.Decides.{nat_tests}
 use Rattle.tc_model.specs.declared.calls.Call.{Call}
@@ -9,8 +9,9 @@ use Rattle.tc_model.specs.declared.answers.CallLine.{CallLine}
 use Rattle.tc_model.specs.Blocks.{blocks_after}
 use Rattle.journal_audit.specs.declared.told.Told.{Told}
 use Rattle.journal_audit.specs.declared.verdict.AuditWhy.{AuditWhy}
+use Rattle.journal_audit.specs.declared.verdict.AuditWhy.TheVariants as why
 use Rattle.journal_audit.specs.Forms.{names, answer_of}
-use Rattle.journal_audit.specs.Rules.{Plan, next_call, line_of, named, has_length, is_in_arena, overlaps, frees_own, broken, judged_by, judged_call, judged_form, judged}
+use Rattle.journal_audit.specs.Rules.{Plan, next_call, line_of, call_told, has_length, is_in_arena, overlaps, frees_own, broken, judged_call, judged}
 
 -- an answered call keeps the rules behind these
 pub record Keeps (plan : Plan) (earlier : List CallLine) (call : Call) (answer : Answer) : Type 0 where
@@ -39,16 +40,17 @@ none_broken plan earlier call answer k = grind (arith)
 
 by_rules : (plan : Plan) (earlier : List CallLine) (told : Told) (call : Call) (c : CallLine) (reason : Option AuditWhy) → length earlier < 1000000
     → next_call plan.scripts earlier told.thread ≡ Some call → names told.act call ≡ true
-    → broken plan earlier call (line_of told call).answer ≡ reason → judged_by (line_of told call) reason ≡ Ok c → Passes plan earlier (Some told) c
+    → broken plan earlier call (line_of told call).answer ≡ reason → option_map_or Err reason (Ok (line_of told call)) ≡ Ok c → Passes plan earlier (Some told) c
 by_rules plan earlier told call c reason few next is_named none h = grind (arith)
 
 by_call : (plan : Plan) (earlier : List CallLine) (told : Told) (c : CallLine) (next : Option Call) → length earlier < 1000000
-    → next_call plan.scripts earlier told.thread ≡ next → judged_call plan earlier (option_and_then (named told) next) ≡ Ok c → Passes plan earlier (Some told) c
+    → next_call plan.scripts earlier told.thread ≡ next
+    → judged_call plan earlier (option_and_then (λ (x : Call). cond (names told.act x) (Some (line_of told x)) None) next) ≡ Ok c → Passes plan earlier (Some told) c
 by_call plan earlier told c None few is h = absurd (cc)
-by_call plan earlier told c (Some call) few is h = grind (arith, by_rules, cases_Bool, cond, judged_call, line_of, named, names)
+by_call plan earlier told c (Some call) few is h = grind (arith, by_rules, cases_Bool, cond, judged_call, line_of, names)
 
 by_form : (plan : Plan) (earlier : List CallLine) (form : Option Told) (c : CallLine) → length earlier < 1000000
-    → judged_form plan earlier form ≡ Ok c → Passes plan earlier form c
+    → option_map_or (λ told. judged_call plan earlier (call_told plan.scripts earlier told)) form (Err why.Form) ≡ Ok c → Passes plan earlier form c
 by_form plan earlier None c few h = absurd (cc)
 by_form plan earlier (Some told) c few h = by_call plan earlier told c _ few refl h
 

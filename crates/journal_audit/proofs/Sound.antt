@@ -25,7 +25,7 @@ use Rattle.journal_audit.specs.declared.told.Resized.TheVariants as resized
 use Rattle.journal_audit.specs.declared.told.Act.{Act}
 use Rattle.journal_audit.specs.declared.told.Act.TheVariants.{Malloc, Free, Release, Drain, Resize}
 use Rattle.journal_audit.specs.Forms.{names, answer_of}
-use Rattle.journal_audit.specs.Rules.{Plan, lies_in, is_block_at, is_null}
+use Rattle.journal_audit.specs.Rules.{Plan, lies_in, gave}
 use Rattle.journal_audit.specs.Spread.{IsSpread}
 use Rattle.journal_audit.proofs.Passing.{Keeps}
 use Rattle.journal_audit.proofs.Spreads.{spread_with, spread_without, found, none_begins, find_new, find_old, find_left, they_meet}
@@ -146,11 +146,11 @@ in_arena huge addr len h = grind (arith, and_parts, leb-true, ltb-true)
 lies_there : (huge addr len : ℕ) → IsInArena huge_bytes huge addr len → lies_in huge addr len ≡ true
 lies_there huge addr len h = and_from _ _ (lt-ltb 0 len h.some) (and_from _ _ (le-leb huge_bytes addr h.from) (le-leb (addr + len) (huge_bytes * (huge + 1)) h.to))
 
-block_at : (addr : ℕ) (o : Option Answer) → is_block_at addr o ≡ true → (len : ℕ) × (o ≡ Some (answer.Block (record { 0 = addr }) len))
+block_at : (addr : ℕ) (o : Option Answer) → gave o (answer.Freed (record { 0 = addr })) ≡ true → (len : ℕ) × (o ≡ Some (answer.Block (record { 0 = addr }) len))
 block_at addr (Some (answer.Block a len)) h = (len, ap (λ (x : ℕ). Some (answer.Block (record { 0 = x }) len)) (eqb-true a.0 addr h))
 block_at addr o h = absurd (false≢true h)
 
-null_at : (o : Option Answer) → is_null o ≡ true → o ≡ Some answer.NoBlock
+null_at : (o : Option Answer) → gave o answer.FreedNull ≡ true → o ≡ Some answer.NoBlock
 null_at (Some answer.NoBlock) h = refl
 null_at o h = absurd (false≢true h)
 
@@ -164,7 +164,7 @@ sound_push plan calls thread (Malloc label (Some place)) (call.Malloc l size) so
 sound_push plan calls thread (Malloc label None) (call.Malloc l size) sound named keeps =
     quiet plan.huge (length_of plan.rows) calls sound (record { thread = thread; call = call.Malloc l size; answer = answer.NoBlock }) tt refl (λ label addr len mine is. cc)
 sound_push plan calls thread (Free label (Some addr)) (call.Free l) sound named keeps =
-    let parts = and_parts (not (freed_in l.0 calls)) (is_block_at addr (answer_to l.0 calls)) keeps.own in
+    let parts = and_parts (not (freed_in l.0 calls)) (gave (answer_to l.0 calls) (answer.Freed (record { 0 = addr }))) keeps.own in
     let at = block_at addr (answer_to l.0 calls) parts.1 in
     without_one plan.huge (length_of plan.rows) calls sound thread l addr at.0 (record { answered = at.1; kept = not-true (freed_in l.0 calls) parts.0 })
 sound_push plan calls thread (Free label None) (call.Free l) sound named keeps =

@@ -1,5 +1,5 @@
 -- The text of a run is read again: its lines of calls tell the calls that it was printed of.
-use Rattle.std.proofs.Common.{◌≡◌, ℕ, ◌&&◌, ◌==◌, if◌then◌else◌, true, false, List, [], ◌∷◌, ◌++◌, length, map, cond, codes, decimal, Some, refl, sym}
+use Rattle.std.proofs.Common.{◌≡◌, ℕ, ◌&&◌, ◌==◌, if◌then◌else◌, true, false, List, [], ◌∷◌, ◌++◌, length, map, cond, codes, decimal, bytes_eq, Some, refl, sym}
 use Rattle.std.proofs.Common.{ap, ◌∙◌, ◌+◌, suc, not, take, subst, arith, append_assoc}
 use Rattle.std.specs.List.{All, AllZip, before_first, enumerate_from, position_or_len}
 use Rattle.std.proofs.lemmas.Bool.{eq-eqb, false_from_ne_true}
@@ -23,7 +23,7 @@ use Rattle.usage_report.specs.Report as report
 use Rattle.usage_report.specs.Report.{letter_of, named_words, answer_words, call_line, fragmentation, summary_of, kind_word, measures, row_line, text_of}
 use Rattle.usage_report.specs.Report.{IsSmall, NamesSmall, AnswersSmall, IsTellable}
 use Rattle.journal_audit.specs.declared.told.Act.{Act}
-use Rattle.journal_audit.specs.Forms.{number, told_by, is_none_word, names, answer_of}
+use Rattle.journal_audit.specs.Forms.{number, told_by, names, answer_of}
 use Rattle.journal_audit.specs.Rules.{Plan, ends, journal_of}
 use Rattle.journal_audit.specs.Legal.{Tells}
 use Rattle.journal_audit.specs.Printed.{PrintedIsLegal}
@@ -139,7 +139,7 @@ lines_are_calls (c ∷ cs) count more =
 reads : (n : ℕ) → IsSmall n → number (decimal n) ≡ Some n
 reads n small = number_of_decimal 18446744073709551615 n (omega arith) small
 
-no_none : (n : ℕ) → IsSmall n → is_none_word (decimal n) ≡ false
+no_none : (n : ℕ) → IsSmall n → bytes_eq (decimal n) (codes "none") ≡ false
 no_none n small = grind (arith, false_from_ne_true, bytes_eq-Decides (decimal n) (codes "none"), reads n small)
 
 names_resize : (cpu k cap : ℕ) → ((cpu == cpu) && (k == k) && (cap == cap)) ≡ true

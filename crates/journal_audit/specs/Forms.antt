@@ -1,6 +1,6 @@
 -- What a call line says: its thread, what it names of its call, and the answer. All numbers are canonical decimals of at
 -- most 64 bits.
-use Rattle.std.specs.Prelude.{ℕ, Bool, true, false, ◌==◌, ◌&&◌, List, [], ◌∷◌, drop, Option, Some, None, if◌then◌else◌, codes, option_map}
+use Rattle.std.specs.Prelude.{ℕ, Bool, true, false, ◌==◌, ◌&&◌, List, [], ◌∷◌, drop, slice_get, Option, Some, None, if◌then◌else◌, codes, option_map}
 use Rattle.std.specs.Option.{option_and_then}
 use Rattle.std.specs.Str.{bytes_eq}
 use Rattle.tc_units.specs.Decimal.{number_of}
@@ -21,64 +21,41 @@ use Rattle.journal_audit.specs.declared.told.Told.{Told}
 abbrev pub number : List ℕ → Option ℕ
 number field = number_of 18446744073709551615 field
 
--- the number of the first field
-abbrev pub first_number : List (List ℕ) → Option ℕ
-first_number [] = None
-first_number (field ∷ fields) = number field
-
 -- what stands in a line whose first field is a number, by that number
 abbrev pub with_number : {A : Type 0} → List (List ℕ) → (ℕ → Option A) → Option A
-with_number fields said = option_and_then said (first_number fields)
-
--- the one word or the two of an answer, and what they say
-pub record Words : Type 0 where
-  pub first : List ℕ
-  pub second : Option (List ℕ)
-
-abbrev pub words : List ℕ → Option (List ℕ) → Words
-words first second = record { first = first; second = second }
-
-abbrev pub one_or_two : List (List ℕ) → Option Words
-one_or_two (first ∷ []) = Some (words first None)
-one_or_two (first ∷ second ∷ []) = Some (words first (Some second))
-one_or_two fields = None
-
-abbrev pub by_words : {A : Type 0} → (List ℕ → Option (List ℕ) → Option A) → List (List ℕ) → Option A
-by_words said fields = option_and_then (λ w. said w.first w.second) (one_or_two fields)
-
--- `none`, of a call without a block
-abbrev pub is_none_word : List ℕ → Bool
-is_none_word field = bytes_eq field (codes "none")
+with_number fields said = option_and_then said (option_and_then number (slice_get fields 0))
 
 -- `ADDR LEN`, or `none`
-abbrev pub place_with : List ℕ → Option (List ℕ) → Option (Option Place)
-place_with first None = if is_none_word first then Some None else None
-place_with first (Some second) = option_and_then (λ addr. option_map (λ len. Some (record { addr = addr; len = len })) (number second)) (number first)
+abbrev pub place_by : List (List ℕ) → Option (Option Place)
+place_by (word ∷ []) = if bytes_eq word (codes "none") then Some None else None
+place_by (addr ∷ len ∷ []) = option_and_then (λ a. option_map (λ n. Some (record { addr = a; len = n })) (number len)) (number addr)
+place_by fields = None
 
 -- `ADDR`, or `none`
 abbrev pub address_by : List (List ℕ) → Option (Option ℕ)
-address_by (field ∷ []) = if is_none_word field then Some None else option_map (λ addr. Some addr) (number field)
+address_by (field ∷ []) = if bytes_eq field (codes "none") then Some None else option_map (λ addr. Some addr) (number field)
 address_by fields = None
 
 -- `ok OBJECTS`, or `busy OWNER`
-abbrev pub drained_with : List ℕ → Option (List ℕ) → Option Drained
-drained_with first None = None
-drained_with first (Some second) =
-    if bytes_eq first (codes "ok") then option_map (λ n. drained.Objects n) (number second)
-    else (if bytes_eq first (codes "busy") then option_map (λ n. drained.Busy n) (number second) else None)
+abbrev pub drained_by : List (List ℕ) → Option Drained
+drained_by (word ∷ field ∷ []) =
+    if bytes_eq word (codes "ok") then option_map (λ n. drained.Objects n) (number field)
+    else (if bytes_eq word (codes "busy") then option_map (λ n. drained.Busy n) (number field) else None)
+drained_by fields = None
 
 -- `ok`, `busy OWNER`, `overstatic CAP` or `overlimit SUM`
-abbrev pub resized_with : List ℕ → Option (List ℕ) → Option Resized
-resized_with first None = if bytes_eq first (codes "ok") then Some resized.Set else None
-resized_with first (Some second) =
-    if bytes_eq first (codes "busy") then option_map (λ n. resized.Busy n) (number second)
-    else (if bytes_eq first (codes "overstatic") then option_map (λ n. resized.OverStatic n) (number second)
-    else (if bytes_eq first (codes "overlimit") then option_map (λ n. resized.OverLimit n) (number second) else None))
+abbrev pub resized_by : List (List ℕ) → Option Resized
+resized_by (word ∷ []) = if bytes_eq word (codes "ok") then Some resized.Set else None
+resized_by (word ∷ field ∷ []) =
+    if bytes_eq word (codes "busy") then option_map (λ n. resized.Busy n) (number field)
+    else (if bytes_eq word (codes "overstatic") then option_map (λ n. resized.OverStatic n) (number field)
+    else (if bytes_eq word (codes "overlimit") then option_map (λ n. resized.OverLimit n) (number field) else None))
+resized_by fields = None
 
 -- The fields behind the thread, by the kind of the call.
 -- `L ADDR LEN`, or `L none`
 abbrev pub malloc_by : List (List ℕ) → Option Act
-malloc_by fields = with_number fields (λ label. option_map (λ block. Malloc label block) (by_words place_with (drop 1 fields)))
+malloc_by fields = with_number fields (λ label. option_map (λ block. Malloc label block) (place_by (drop 1 fields)))
 
 -- `L ADDR`, or `L none`
 abbrev pub free_by : List (List ℕ) → Option Act
@@ -91,7 +68,7 @@ release_by fields = None
 
 -- `C ok OBJECTS`, or `C busy OWNER`
 abbrev pub drain_by : List (List ℕ) → Option Act
-drain_by fields = with_number fields (λ cpu. option_map (λ answer. Drain cpu answer) (by_words drained_with (drop 1 fields)))
+drain_by fields = with_number fields (λ cpu. option_map (λ answer. Drain cpu answer) (drained_by (drop 1 fields)))
 
 -- `C K N` with `ok`, `busy OWNER`, `overstatic CAP` or `overlimit SUM` behind it
 abbrev pub resize_by : List (List ℕ) → Option Act
@@ -99,7 +76,7 @@ resize_by fields =
     with_number fields (λ cpu.
     with_number (drop 1 fields) (λ class.
     with_number (drop 2 fields) (λ cap.
-    option_map (λ answer. Resize cpu class cap answer) (by_words resized_with (drop 3 fields)))))
+    option_map (λ answer. Resize cpu class cap answer) (resized_by (drop 3 fields)))))
 
 -- the kind of a call, by its letter
 abbrev pub act_by : List ℕ → List (List ℕ) → Option Act
@@ -125,16 +102,6 @@ names (Resize cpu class cap answer) (call.Resize c k n) = (cpu == c.0) && (class
 names act call = false
 
 -- the answer that a line tells
-abbrev pub drain_answer : Drained → Answer
-drain_answer (drained.Objects n) = answer.Drained n
-drain_answer (drained.Busy owner) = answer.Busy (record { 0 = owner })
-
-abbrev pub resize_answer : Resized → Answer
-resize_answer resized.Set = answer.CapSet
-resize_answer (resized.Busy owner) = answer.Busy (record { 0 = owner })
-resize_answer (resized.OverStatic cap) = answer.OverStatic cap
-resize_answer (resized.OverLimit sum) = answer.OverLimit sum
-
 abbrev pub malloc_answer : Option Place → Answer
 malloc_answer None = answer.NoBlock
 malloc_answer (Some place) = answer.Block (record { 0 = place.addr }) place.len
@@ -147,5 +114,9 @@ abbrev pub answer_of : Act → Answer
 answer_of (Malloc label block) = malloc_answer block
 answer_of (Free label addr) = free_answer addr
 answer_of (Release pages) = answer.Released pages
-answer_of (Drain cpu told) = drain_answer told
-answer_of (Resize cpu class cap told) = resize_answer told
+answer_of (Drain cpu (drained.Objects n)) = answer.Drained n
+answer_of (Drain cpu (drained.Busy owner)) = answer.Busy (record { 0 = owner })
+answer_of (Resize cpu class cap resized.Set) = answer.CapSet
+answer_of (Resize cpu class cap (resized.Busy owner)) = answer.Busy (record { 0 = owner })
+answer_of (Resize cpu class cap (resized.OverStatic most)) = answer.OverStatic most
+answer_of (Resize cpu class cap (resized.OverLimit sum)) = answer.OverLimit sum

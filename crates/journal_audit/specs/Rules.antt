@@ -61,11 +61,9 @@ next_call scripts earlier thread = option_map (λ (p : Planned). p.call) (slice_
 abbrev pub line_of : Told → Call → CallLine
 line_of told call = record { thread = record { 0 = told.thread }; call = call; answer = answer_of told.act }
 
-abbrev pub named : Told → Call → Option CallLine
-named told call = if names told.act call then Some (line_of told call) else None
-
 abbrev pub call_told : List Script → List CallLine → Told → Option CallLine
-call_told scripts earlier told = option_and_then (named told) (next_call scripts earlier told.thread)
+call_told scripts earlier told =
+    option_and_then (λ call. if names told.act call then Some (line_of told call) else None) (next_call scripts earlier told.thread)
 
 -- whether a block has the rounded length of its request, lies in the arena, and meets a live one
 abbrev pub has_length : List ClassRow → Call → Answer → Bool
@@ -84,17 +82,14 @@ overlaps blocks (Block addr len) = list_any (meets (record { addr = addr.0; len 
 overlaps blocks answer = false
 
 -- whether a free names the answer of an earlier line with its label, a null as a null, which no earlier line freed
-abbrev pub is_block_at : ℕ → Option Answer → Bool
-is_block_at addr (Some (Block a len)) = a.0 == addr
-is_block_at addr answer = false
-
-abbrev pub is_null : Option Answer → Bool
-is_null (Some NoBlock) = true
-is_null answer = false
+abbrev pub gave : Option Answer → Answer → Bool
+gave (Some (Block given len)) (Freed addr) = given.0 == addr.0
+gave (Some NoBlock) FreedNull = true
+gave given answer = false
 
 abbrev pub frees_own : List CallLine → Call → Answer → Bool
-frees_own earlier (Free label) (Freed addr) = not (freed_in label.0 earlier) && is_block_at addr.0 (answer_to label.0 earlier)
-frees_own earlier (Free label) FreedNull = not (freed_in label.0 earlier) && is_null (answer_to label.0 earlier)
+frees_own earlier (Free label) (Freed addr) = not (freed_in label.0 earlier) && gave (answer_to label.0 earlier) (Freed addr)
+frees_own earlier (Free label) FreedNull = not (freed_in label.0 earlier) && gave (answer_to label.0 earlier) FreedNull
 frees_own earlier call answer = true
 
 -- the first rule on an answered call that it fails, behind the calls before it
@@ -106,20 +101,14 @@ broken plan earlier call answer =
     else (if not (frees_own earlier call answer) then Some why.Address else None)))
 
 -- the answered call that a line tells, or the first rule that the line fails
-abbrev pub judged_by : CallLine → Option AuditWhy → Result CallLine AuditWhy
-judged_by c None = Ok c
-judged_by c (Some reason) = Err reason
-
 abbrev pub judged_call : Plan → List CallLine → Option CallLine → Result CallLine AuditWhy
 judged_call plan earlier None = Err why.Order
-judged_call plan earlier (Some c) = judged_by c (broken plan earlier c.call c.answer)
-
-abbrev pub judged_form : Plan → List CallLine → Option Told → Result CallLine AuditWhy
-judged_form plan earlier None = Err why.Form
-judged_form plan earlier (Some told) = judged_call plan earlier (call_told plan.scripts earlier told)
+judged_call plan earlier (Some c) = option_map_or Err (broken plan earlier c.call c.answer) (Ok c)
 
 abbrev pub judged : Plan → List CallLine → Option Told → Result CallLine AuditWhy
-judged plan earlier form = if nat_lt 1000000 (length earlier + 1) then Err why.Lines else judged_form plan earlier form
+judged plan earlier form =
+    if nat_lt 1000000 (length earlier + 1) then Err why.Lines
+    else option_map_or (λ told. judged_call plan earlier (call_told plan.scripts earlier told)) form (Err why.Form)
 
 -- whether some script has a call left behind these
 abbrev pub has_left : List Script → List CallLine → Bool

@@ -1,7 +1,7 @@
 //! What a call line says.
-ghost use Rattle.std.specs.Prelude.{◌≡◌, ◌≢◌, [], ◌∷◌, length, drop, option_map, MatchOption};
-ghost use Rattle.std.specs.Option.{option_copied};
-ghost use Rattle.journal_audit.specs.Forms.{number, first_number, one_or_two, words, place_with, address_by, drained_with, resized_with};
+ghost use Rattle.std.specs.Prelude.{◌≡◌, ◌≢◌, [], ◌∷◌, length, drop, slice_get, MatchOption};
+ghost use Rattle.std.specs.Option.{option_copied, option_to_list, option_and_then};
+ghost use Rattle.journal_audit.specs.Forms.{number, place_by, address_by, drained_by, resized_by};
 ghost use Rattle.journal_audit.specs.Forms.{malloc_by, free_by, release_by, drain_by, resize_by, act_by, told_by, names};
 
 use tc_model::Call;
@@ -79,7 +79,7 @@ fn read_number(field: &[u8]) -> Option<u64>
 
 /// The number of the next field.
 fn next_number(fields: &mut Fields) -> Option<u64>
-    ensures number { result ≡ first_number fields.old.fields }
+    ensures number { result ≡ option_and_then number (slice_get fields.old.fields 0) }
     ensures others { fields.new.fields ≡ drop 1 fields.old.fields }
 {
     let field = fields.next()?;
@@ -99,7 +99,8 @@ fn one<'a>(fields: &mut Fields<'a>) -> Option<&'a [u8]>
 
 /// The one field that is left, or the two.
 fn one_or_two<'a>(fields: &mut Fields<'a>) -> Option<(&'a [u8], Option<&'a [u8]>)>
-    ensures { option_map (λ f. words f.0.now (option_copied f.1)) result ≡ one_or_two fields.old.fields }
+    ensures { MatchOption result ((length fields.old.fields ≢ 1) × (length fields.old.fields ≢ 2))
+        (λ f. fields.old.fields ≡ f.0.now ∷ option_to_list (option_copied f.1)) }
 {
     let first = fields.next()?;
     let Some(second) = fields.next() else {
@@ -113,7 +114,7 @@ fn one_or_two<'a>(fields: &mut Fields<'a>) -> Option<(&'a [u8], Option<&'a [u8]>
 
 /// The block that an allocation got, or `None` where it got nothing.
 fn place_with(first: &[u8], second: Option<&[u8]>) -> Option<Option<Place>>
-    ensures { result ≡ place_with first.now (option_copied second.entry) }
+    ensures { result ≡ place_by (first.now ∷ option_to_list (option_copied second.entry)) }
 {
     let Some(second) = second else {
         return if first == b"none".as_slice() {
@@ -140,7 +141,7 @@ fn read_address(fields: &mut Fields) -> Option<Option<u64>>
 }
 
 fn drained_with(first: &[u8], second: Option<&[u8]>) -> Option<Drained>
-    ensures { result ≡ drained_with first.now (option_copied second.entry) }
+    ensures { result ≡ drained_by (first.now ∷ option_to_list (option_copied second.entry)) }
 {
     let number = second?;
     if first == b"ok".as_slice() {
@@ -153,7 +154,7 @@ fn drained_with(first: &[u8], second: Option<&[u8]>) -> Option<Drained>
 }
 
 fn resized_with(first: &[u8], second: Option<&[u8]>) -> Option<Resized>
-    ensures { result ≡ resized_with first.now (option_copied second.entry) }
+    ensures { result ≡ resized_by (first.now ∷ option_to_list (option_copied second.entry)) }
 {
     let Some(number) = second else {
         return if first == b"ok".as_slice() {

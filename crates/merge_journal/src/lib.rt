@@ -4,5 +4,7 @@
 mod halves;
 #[cfg(test)]
 mod tests;
+mod threads;
 
 pub use halves::merge;
+pub use threads::{merge_threads, merge_threads_counted};

@@ -1,7 +1,7 @@
 //! The merge of three small journals, worked out by hand.
 ghost use Rattle.std.specs.Prelude.{◌≡◌};
 
-use crate::merge;
+use crate::{merge, merge_threads};
 use std::test::Fail;
 use tc_model::Entry;
 use tc_units::ThreadNo;
@@ -35,6 +35,8 @@ fn entries_stand_by_their_tickets(rt: HostRuntime) -> Result<(), Fail> {
         entry(9, 0),
     ];
     assert_eq!(rt; merged.as_slice(), by_hand.as_slice());
+    let threads = merge_threads(alloc, lists.as_slice())?;
+    assert_eq!(rt; threads.as_slice(), [2, 0, 1, 1, 1, 2, 0, 0].as_slice());
     Ok(())
 }
 
@@ -43,5 +45,6 @@ fn no_lists_have_no_entries(rt: HostRuntime) -> Result<(), Fail> {
     let alloc = rt.alloc();
     let lists: Vec<Vec<Entry>> = Vec::new(alloc);
     assert_eq!(rt; merge(alloc, lists.as_slice())?.len(), 0);
+    assert_eq!(rt; merge_threads(alloc, lists.as_slice())?.len(), 0);
     Ok(())
 }

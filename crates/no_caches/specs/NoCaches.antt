@@ -9,7 +9,7 @@ use Rattle.no_caches.specs.declared.front.NoSeat.{NoSeat}
 use Rattle.call_steps.specs.declared.step.Next.TheVariants.{End}
 use Rattle.call_steps.specs.Calls.{About, Other}
 use Rattle.call_steps.specs.Fronts.{FrontCalls, FrontRules}
-use Rattle.alloc_rules.specs.Standings.{At, Here, Later, Away, Standing}
+use Rattle.alloc_rules.specs.Standings.{At, Away, Standing}
 
 -- a thread knows nothing there
 abbrev pub no_seat : NoSeat
@@ -52,9 +52,8 @@ no_caches rows =
 
 -- whether a thread stands at no row
 abbrev pub is_away : At NoRow → Bool
-is_away (Here row) = false
-is_away (Later class row) = false
 is_away Away = true
+is_away other = false
 
 -- none comes to a row
 abbrev pub Holds : ℕ → List NoPart → List (Standing NoSeat NoRow) → Type 0

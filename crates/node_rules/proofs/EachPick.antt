@@ -2,8 +2,8 @@
 use Rattle.std.proofs.Common.{◌≡◌, ℕ, ◌+◌, ◌<◌, ◌≤◌, List, length, Option, Some, None, refl, sym, ap, ◌∙◌, arith}
 use Rattle.std.proofs.Common.{slice_get, slice_set, option_map, map, zero, suc, [], ◌++◌, ◌∷◌}
 use Rattle.std.specs.Option.{option_and_then, option_to_list}
-use Rattle.tc_model.specs.Run.{pick}
-use Rattle.alloc_rules.proofs.Common.{ClassRow, FrontCalls, Input, Parts, Shard, Step, no_shard, number}
+use Rattle.tc_model.specs.Run.{World, pick}
+use Rattle.alloc_rules.proofs.Common.{ClassRow, FrontCalls, Input, Parts, Shard, Step, first_shard, no_class, number}
 use Rattle.alloc_rules.proofs.Common.{Fits, IsReady, fits_step, middle_of, number_of, place_of, shard_at, slice_get-get_or, target_at}
 use Rattle.alloc_rules.proofs.Numbers.{get_front, get_heap, get_map, get_names, get_shard, set_heap, set_map, set_names, set_shard}
 use Rattle.alloc_rules.specs.declared.part.Part.{Part}
@@ -15,8 +15,8 @@ use Rattle.no_caches.specs.declared.front.NoRow.{NoRow}
 use Rattle.no_caches.specs.declared.front.NoSeat.{NoSeat}
 use Rattle.no_caches.specs.NoCaches.{no_calls, no_caches, about_none, fits}
 use Rattle.node_rules.specs.OneNode.{Node, Ask, answer, node_after}
-use Rattle.node_rules.specs.Numa.{NodeLocal}
-use Rattle.node_rules.specs.NodeActs.{asked_by, resumed, PlainWorld, with_names, HasNode, node_rules}
+use Rattle.node_rules.specs.Numa.{NodeLocal, NodePart}
+use Rattle.node_rules.specs.NodeActs.{asked_by, resumed, HasNode, node_rules}
 use Rattle.node_rules.proofs.EachAct.{acts_are_asked}
 
 -- a part that an act at a shard fits is one of the shards that there are
@@ -26,14 +26,14 @@ shard_low rows l row is p [] k q at fit = grind arith
 shard_low rows l row is p (x ∷ xs) zero q at fit = omega arith
 shard_low rows l row is p (x ∷ xs) (suc k) q at fit = let low = shard_low rows l row is p xs k q at fit in omega arith
 
-module _ (input : Input) (w : PlainWorld) (n : Node) (has : HasNode w n) (as_many : length n.shards ≡ length input.rows) (t : ℕ) where
+module _ (input : Input) (w : World NodePart NodeLocal) (n : Node) (has : HasNode w n) (as_many : length n.shards ≡ length input.rows) (t : ℕ) where
   abbrev e : FrontCalls NoSeat NoRow
   e = no_calls input.rows
 
   abbrev p : Parts NoPart
-  p = with_names n has.names
+  p = record { fronts = []; shards = n.shards; heap = n.heap; map = n.map; names = has.names }
 
-  abbrev next : PlainWorld
+  abbrev next : World NodePart NodeLocal
   next = pick (node_rules input) w t
 
   abbrev few : 0 ≤ length p.fronts
@@ -59,7 +59,7 @@ module _ (input : Input) (w : PlainWorld) (n : Node) (has : HasNode w n) (as_man
         let there = ap (λ (qs : List (Part NoPart)). slice_get qs (0 + k)) (sym has.is) ∙ found.there in
         let low = shard_low input.rows l row is p n.shards (0 + k) found.part there found.fit.step in
         let within : k < length n.shards = omega arith in
-        let at = get_shard 0 p few k within ∙ ap (option_map part.Shard) (slice_get-get_or n.shards k no_shard within) in
+        let at = get_shard 0 p few k within ∙ ap (option_map part.Shard) (slice_get-get_or n.shards k (first_shard 0 0 no_class) within) in
         let law = (acts_are_asked e).shard (shard_at n.shards k) l in
         record { node = record { names = has.names; is = grind (arith, set_shard 0 p few) }; goes = λ j a local' asks. grind arith }
     picked_at ready (does.Heap row) is = grind (arith, wants (does.Heap row) is, does.Heap row, get_heap 0 p few, acts_are_asked e, set_heap 0 p few)

@@ -1,8 +1,8 @@
 -- One pick more of memory nodes side by side: the world of its node goes on by it, those of the others stay, and what it decided is
 -- told.
-use Rattle.std.proofs.Common.{◌≡◌, ℕ, ◌+◌, ◌*◌, ◌<◌, ◌≤◌, cond, eqb, List, [], ◌∷◌, ◌++◌, length, map, fold, Option, Some, refl, sym, ap, ◌∙◌, subst, arith, inl, inr, All}
+use Rattle.std.proofs.Common.{◌≡◌, ℕ, ◌+◌, ◌*◌, ◌<◌, ◌≤◌, ◌==◌, false, cond, eqb, List, [], ◌∷◌, ◌++◌, length, map, fold, Option, Some, refl, sym, ap, ◌∙◌, subst, arith, inl, inr, All}
 use Rattle.std.specs.Prelude.{slice_get, slice_set, option_map}
-use Rattle.std.specs.Option.{option_flatten}
+use Rattle.std.specs.Option.{option_flatten, option_map_or}
 use Rattle.std.specs.List.{range_with_len}
 use Rattle.std.proofs.lemmas.Bool.{cases_eq, eq-eqb, ne_eqb}
 use Rattle.std.proofs.lemmas.List.{append-nil, length-append, length-map, length-set, map-append}
@@ -13,7 +13,7 @@ use Rattle.std.proofs.lemmas.Bool.Decides.{nat_tests}
 use Rattle.tc_model.specs.declared.machine.TheConstants.{MOST_PICKS}
 use Rattle.tc_model.specs.declared.steps.Stepped.TheVariants as step
 use Rattle.tc_model.specs.declared.answers.CallLine.{CallLine}
-use Rattle.tc_model.specs.Calls.{picks_of, answers_at, AreAt, AreOfPicks, AreRising}
+use Rattle.tc_model.specs.Calls.{picks_of, AreAt, AreOfPicks, AreRising}
 use Rattle.alloc_rules.proofs.Serving.{rising_with}
 use Rattle.alloc_rules.specs.Told.{lines_by}
 use Rattle.tc_model.specs.Input.{Input, script_of}
@@ -32,7 +32,7 @@ use Rattle.no_caches.specs.NoCaches.{no_caches, about_none, Holds, fits}
 use Rattle.no_caches.specs.NoCachesLaw.{lawful_in}
 use Rattle.node_rules.specs.Joined.{NodeLine, told_line, lines_at, AreOfNodes, IsAbout}
 use Rattle.node_rules.specs.Nodes.{acts_at, asked_at, input_at}
-use Rattle.node_rules.specs.Beside.{Beside, node_now, node_next, is_node, decided_at, picks_from, with_act, IsNodeOf}
+use Rattle.node_rules.specs.Beside.{Beside, node_now, node_next, decided_at, picks_from, with_act, IsNodeOf}
 use Rattle.node_rules.specs.Numa.{NodeLocal, NodePart, width_of, rules_at, numa_rules, numa_calls, first_parts, first_thread}
 use Rattle.node_rules.specs.NumaLaw.{order_at, world_at}
 use Rattle.node_rules.proofs.Moving.{IsMove, moves, pick_is, does_move, own_moves, own_pick}
@@ -44,7 +44,7 @@ use Rattle.node_rules.proofs.ThreadGoes.{IsSeen, answers_are, decided_there, thr
 -- The picks of a node, with one pick more.
 module _ {P L : Type 0} (r : Rules P (Beside L)) (k : ℕ) where
   pub picks_push : (w : World P (Beside L)) (ts : List ℕ) (t : ℕ)
-      → picks_from r w k (ts ++ t ∷ []) ≡ picks_from r w k ts ++ cond (is_node k (node_next (fold (pick r) w ts) t)) (t ∷ []) []
+      → picks_from r w k (ts ++ t ∷ []) ≡ picks_from r w k ts ++ cond (option_map_or (λ j. j == k) (node_next (fold (pick r) w ts) t) false) (t ∷ []) []
   picks_push w [] t = refl
   picks_push w (u ∷ us) t = grind (arith, picks_push (pick r w u) us t)
 
@@ -113,7 +113,7 @@ module _ (nodes : ℕ) (input : Input) (valid : IsValidInput input) (taken : not
     pub threads : (t : ℕ) (l : Beside NodeLocal) → slice_get (run numa order).locals t ≡ Some l → IsSeen nodes input order t l
     pub of_picks : AreOfPicks (λ (l : Beside NodeLocal). l.answers) (λ (d : Decided). d.act) (run numa order).locals order
     pub rising : (t : ℕ) (l : Beside NodeLocal) → slice_get (run numa order).locals t ≡ Some l → AreRising (λ (d : Decided). d.act) 0 l.answers
-    pub tells : (t : ℕ) → lines_by t (numa_calls (run numa order).locals order) ≡ map (told t) (answers_at (λ (l : Beside NodeLocal). l.answers) (slice_get (run numa order).locals t))
+    pub tells : (t : ℕ) → lines_by t (numa_calls (run numa order).locals order) ≡ map (told t) (option_map_or (λ (l : Beside NodeLocal). l.answers) (slice_get (run numa order).locals t) [])
     pub lines : List NodeLine
     pub told : numa_calls (run numa order).locals order ≡ map (told_line huge) lines
     pub told_at : (k : ℕ) → k < nodes → lines_at k lines ≡ allocator.calls (world_at nodes input k order).locals (order_at nodes input k order)
@@ -265,7 +265,7 @@ module _ (nodes : ℕ) (input : Input) (valid : IsValidInput input) (taken : not
     lines_next u = ap (lines_by u) calls_next ∙ filter-append (λ (c : CallLine). eqb c.thread.0 u) (numa_calls w.locals order) (map (told t) says)
 
     abbrev Tells : ℕ → Type 0
-    Tells u = lines_by u (numa_calls (slice_set w.locals t gone) next) ≡ map (told u) (answers_at (λ (l : Beside NodeLocal). l.answers) (slice_get (slice_set w.locals t gone) u))
+    Tells u = lines_by u (numa_calls (slice_set w.locals t gone) next) ≡ map (told u) (option_map_or (λ (l : Beside NodeLocal). l.answers) (slice_get (slice_set w.locals t gone) u) [])
 
     tells_this : Tells t
     tells_this = grind (arith, set_here, lines_next, own_told, map-append, pushed)
@@ -327,7 +327,7 @@ module _ (nodes : ℕ) (input : Input) (valid : IsValidInput input) (taken : not
           of_picks = by (λ ls. AreOfPicks (λ (l : Beside NodeLocal). l.answers) (λ (d : Decided). d.act) ls next)
               (picks-step (λ (l : Beside NodeLocal). l.answers) (λ (d : Decided). d.act) told w.locals order t m.l gone says h.of_picks m.at pushed at_pick);
           rising = by (λ ls. (u : ℕ) (l : Beside NodeLocal) → slice_get ls u ≡ Some l → AreRising (λ (d : Decided). d.act) 0 l.answers) each_rises;
-          tells = by (λ ls. (u : ℕ) → lines_by u (numa_calls ls next) ≡ map (told u) (answers_at (λ (l : Beside NodeLocal). l.answers) (slice_get ls u))) each_tells;
+          tells = by (λ ls. (u : ℕ) → lines_by u (numa_calls ls next) ≡ map (told u) (option_map_or (λ (l : Beside NodeLocal). l.answers) (slice_get ls u) [])) each_tells;
           lines = next_lines;
           told = by (λ ls. numa_calls ls next ≡ map (told_line huge) next_lines) told_next;
           told_at = each_told;

@@ -1,7 +1,7 @@
 -- The law of memory nodes: all that holds between two picks, that each pick fits, that the earliest call moves, and that scripts end.
-use Rattle.std.proofs.Common.{◌≡◌, ℕ, zero, suc, ◌+◌, ◌*◌, ◌-◌, ◌<◌, ◌≤◌, false, eqb, List, [], ◌∷◌, ◌++◌, length, map, take, drop, filter, get_or, Option, Some, None, option_and_then, refl, sym, ap, ◌∙◌, subst, arith, inl, inr, All}
+use Rattle.std.proofs.Common.{◌≡◌, ℕ, zero, suc, ◌+◌, ◌*◌, ◌<◌, ◌≤◌, false, eqb, List, [], ◌∷◌, ◌++◌, length, map, take, drop, filter, get_or, Option, Some, None, IsSomeAnd, option_and_then, refl, sym, ap, ◌∙◌, subst, arith, inl, inr, All}
 use Rattle.std.specs.Prelude.{slice_get, option_map, count_by}
-use Rattle.std.specs.Option.{option_flatten}
+use Rattle.std.specs.Option.{option_flatten, option_map_or}
 use Rattle.std.specs.List.{range_with_len}
 use Rattle.std.proofs.lemmas.List.{length-append, length-map, map-append, take_all}
 use Rattle.std.proofs.lemmas.List.Elements.{All-nil, filter-append}
@@ -17,13 +17,13 @@ use Rattle.holdings.proofs.Sums.{of_all}
 use Rattle.tc_model.specs.declared.answers.CallLine.{CallLine}
 use Rattle.tc_model.specs.declared.steps.Stepped.TheVariants as step
 use Rattle.tc_model.specs.Blocks.{IsBlockRun}
-use Rattle.tc_model.specs.Calls.{picks_of, answers_at, AreBelow}
+use Rattle.tc_model.specs.Calls.{picks_of, AreBelow}
 use Rattle.tc_model.specs.Input.{Asked, Input, ThreadCall, script_of}
 use Rattle.std.proofs.Math.Seq.{drop-append_seam}
 use Rattle.std.proofs.lemmas.List.Sums.{count_by-le-length}
 use Rattle.std.proofs.lemmas.Bool.Decides.{nat_tests}
 use Rattle.node_rules.proofs.LowAnswers.{low_last}
-use Rattle.tc_model.specs.Replays.{HaveEnded, done_by, done_in}
+use Rattle.tc_model.specs.Replays.{HaveEnded, done_in}
 use Rattle.tc_model.specs.Run.{Rules, World, start, pick, run, with_pair}
 use Rattle.tc_model.specs.Serial.{AreThreads, NeverWaits, Rises, Ends, next_turn}
 use Rattle.tc_model.specs.Sound.{IsOrder, IsSound, FitsThere}
@@ -46,9 +46,9 @@ use Rattle.no_caches.specs.declared.front.NoRow.{NoRow}
 use Rattle.no_caches.specs.NoCaches.{no_caches, about_none, Holds, fits}
 use Rattle.node_rules.specs.Joined.{NodeLine, IsAbout, lines_at}
 use Rattle.node_rules.specs.Nodes.{node_of, acts_at, asked_at, input_at, route_of}
-use Rattle.node_rules.specs.Beside.{Beside, local_now, node_now, part_at, want_by, after_at, after_by}
+use Rattle.node_rules.specs.Beside.{Beside, local_now, node_now, part_at, want_by, after_by}
 use Rattle.node_rules.specs.Numa.{NodeLocal, NodePart, width_of, rules_at, numa_rules, numa_calls, first_parts, first_thread}
-use Rattle.node_rules.specs.NumaLaw.{NodesAreLawful, HoldsAfter, FitsNow, FitsThread, IsLow, IsOneAct, order_at, world_at, under_now}
+use Rattle.node_rules.specs.NumaLaw.{NodesAreLawful, HoldsAfter, FitsThread, IsLow, IsOneAct, order_at, world_at, under_now}
 use Rattle.node_rules.proofs.Going.{IsAt, IsRun, goes_on, law}
 use Rattle.node_rules.proofs.JoinedRun.{block_runs_join}
 use Rattle.node_rules.proofs.Moving.{does_move, moves}
@@ -112,11 +112,11 @@ module _ (nodes : ℕ) (input : Input) (valid : IsValidInput input) (taken : not
   Run = IsRun nodes input valid taken some
 
   -- the start, and each run
-  none_told : (t : ℕ) (o : Option (Beside NodeLocal)) → slice_get first t ≡ o → [] ≡ map (told t) (answers_at (λ (l : Beside NodeLocal). l.answers) o)
+  none_told : (t : ℕ) (o : Option (Beside NodeLocal)) → slice_get first t ≡ o → [] ≡ map (told t) (option_map_or (λ (l : Beside NodeLocal). l.answers) o [])
   none_told t None at = refl
   none_told t (Some l) at = ap (λ (m : Beside NodeLocal). map (told t) m.answers) (is_number (first_thread nodes input) threads t l at).1
 
-  none_below : (t : ℕ) (o : Option (Beside NodeLocal)) → slice_get first t ≡ o → AreBelow (λ (d : Decided). d.act) 0 (answers_at (λ (l : Beside NodeLocal). l.answers) o)
+  none_below : (t : ℕ) (o : Option (Beside NodeLocal)) → slice_get first t ≡ o → AreBelow (λ (d : Decided). d.act) 0 (option_map_or (λ (l : Beside NodeLocal). l.answers) o [])
   none_below t None at = tt
   none_below t (Some l) at = subst (λ (m : Beside NodeLocal). AreBelow (λ (d : Decided). d.act) 0 m.answers) (is_number (first_thread nodes input) threads t l at).1 tt
 
@@ -212,7 +212,7 @@ module _ (nodes : ℕ) (input : Input) (valid : IsValidInput input) (taken : not
         part = found.part;
         there = ap (slice_get (run numa order).parts) w.is ∙ (a.of.parts w.place.0 in_width ∙ found.there);
         fit = record {
-          now = subst (FitsNow input.rows found.part) (sym now) found.fit;
+          now = subst (λ o. IsSomeAnd o (Fits input.rows fits found.part)) (sym now) found.fit;
           acts = omega (arith, seen.thread.acts, count_by-le-length (λ u. eqb u t) order, of.few);
           ended = omega (arith, seen.thread.slow, seen.thread.acts, count_by-le-length (λ u. eqb u t) order, of.few);
           goes = λ x is goes.
@@ -230,13 +230,8 @@ module _ (nodes : ℕ) (input : Input) (valid : IsValidInput input) (taken : not
       omega (arith, count, thread_below threads input.asked.calls (λ earlier c later is. (valid.calls earlier c later is).thread) i within)
 
   -- no act lowers a number of ended calls
-  rises_here : (p : NodePart) (l : Beside NodeLocal) (k : ℕ) (o : Option NodeLocal) → l.ended ≤ (after_at one answers width huge p l k o).1.ended
-  rises_here p l k None = omega arith
-  rises_here p l k (Some x) = omega arith
-
   rises_at : (p : NodePart) (l : Beside NodeLocal) (o : Option ℕ) → l.ended ≤ (after_by one answers width huge p l o).1.ended
-  rises_at p l None = omega arith
-  rises_at p l (Some k) = rises_here p l k (slice_get l.here k)
+  rises_at p l o = grind (arith)
 
   rises : Rises numa
   rises = rises_by numa (λ p l. rises_at p l (node_now l))
@@ -272,7 +267,7 @@ module _ (nodes : ℕ) (input : Input) (valid : IsValidInput input) (taken : not
 
     -- as many of its calls have ended as stand before that one
     ended : own.0.ended ≡ picks_of t (map thread_of before)
-    ended = omega (arith, turn.ended t, turn.next, ap (done_by numa) own.1)
+    ended = omega (arith, turn.ended t, turn.next, ap (λ o. option_map_or numa.done o 0) own.1)
 
     route : (u : ℕ) → route_of nodes input.asked u ≡ map (node_of nodes input.asked) (filter (λ (c : ThreadCall). eqb c.thread.0 u) (before ++ turn.c ∷ turn.behind))
     route u = ap (λ (cs : List ThreadCall). map (node_of nodes input.asked) (filter (λ (c : ThreadCall). eqb c.thread.0 u) cs)) (sym turn.is)
@@ -296,12 +291,12 @@ module _ (nodes : ℕ) (input : Input) (valid : IsValidInput input) (taken : not
         let s = (h.threads u l at).thread in
         let x = there_is l.here k (omega (arith, low, s.here)) in
         let local : slice_get v.locals u ≡ Some x.0 = sym (a.of.locals u l at) ∙ x.1 in
-        ap (done_by (rules_at nodes input k)) local ∙ (s.ended k x.0 x.1 ∙ ap (λ (r : List ℕ). count_by (λ j. eqb j k) (take l.ended r)) s.route)
+        ap (λ o. option_map_or (rules_at nodes input k).done o 0) local ∙ (s.ended k x.0 x.1 ∙ ap (λ (r : List ℕ). count_by (λ j. eqb j k) (take l.ended r)) s.route)
 
     kept_done : (u : ℕ) (o : Option (Beside NodeLocal)) → slice_get w.locals u ≡ o → picks_of u (map thread_of kept) ≤ done_in (rules_at nodes input k) v u
     kept_done u None at = grind (arith, kept_is u)
     kept_done u (Some l) at =
-        omega (arith, kept_is u, done_here u l at, count_less k (picks_of u (map thread_of before)) l.ended (route_of nodes input.asked u) (omega (arith, turn.ended u, ap (done_by numa) at)))
+        omega (arith, kept_is u, done_here u l at, count_less k (picks_of u (map thread_of before)) l.ended (route_of nodes input.asked u) (omega (arith, turn.ended u, ap (λ o. option_map_or numa.done o 0) at)))
 
     own_done : done_in (rules_at nodes input k) v t ≤ picks_of t (map thread_of kept)
     own_done = omega (arith, kept_is t, done_here t own.0 own.1, ap (λ n. count_by (λ j. eqb j k) (take n (route_of nodes input.asked t))) ended)
@@ -349,7 +344,7 @@ module _ (nodes : ℕ) (input : Input) (valid : IsValidInput input) (taken : not
       let at : slice_get w.locals t ≡ Some l = slice_get-get_or w.locals t d within in
       let s = (h.threads t l at).thread in
       let all = turns_none (done_in numa w) [] (turns input.asked) next (λ u. omega arith) t in
-      let past : node_now l ≡ None = slice_get_past l.route l.ended (omega (arith, all, route_length t, ap length s.route, ap (done_by numa) at)) in
+      let past : node_now l ≡ None = slice_get_past l.route l.ended (omega (arith, all, route_length t, ap length s.route, ap (λ o. option_map_or numa.done o 0) at)) in
       ap (want_by one answers width huge l) past
 
   script_length : (t : ℕ) → length (calls_in input.asked t) ≡ length (route_of nodes input.asked t)
@@ -398,7 +393,7 @@ module _ (nodes : ℕ) (input : Input) (valid : IsValidInput input) (taken : not
             let long = over order h of t own.0 own.1 (node_now own.0) refl none in
             told_first order h t own.0 own.1 ∙ take_all (own.0.ended + under_now (local_now own.0)) (calls_in input.asked t) (omega (arith, long)));
         others = λ t high.
-            h.tells t ∙ ap (λ o. map (told t) (answers_at (λ (l : Beside NodeLocal). l.answers) o)) (slice_get_past (run numa order).locals t (omega (arith, high, h.count)));
+            h.tells t ∙ ap (λ o. map (told t) (option_map_or (λ (l : Beside NodeLocal). l.answers) o [])) (slice_get_past (run numa order).locals t (omega (arith, high, h.count)));
       }
 
   -- after every order

@@ -1,5 +1,5 @@
 -- A thread behind one act at the node of its call: it goes on within the call, or comes to the next one, at whichever node.
-use Rattle.std.proofs.Common.{◌≡◌, ℕ, ◌+◌, ◌-◌, ◌<◌, ◌≤◌, eqb, List, [], ◌∷◌, ◌++◌, length, map, take, Option, Some, None, refl, sym, ap, ◌∙◌, arith}
+use Rattle.std.proofs.Common.{◌≡◌, ℕ, ◌+◌, ◌<◌, ◌≤◌, eqb, List, [], ◌∷◌, ◌++◌, length, map, take, Option, Some, None, refl, sym, ap, ◌∙◌, arith}
 use Rattle.std.specs.Prelude.{slice_get, count_by, option_map}
 use Rattle.std.specs.Option.{option_flatten}
 use Rattle.std.proofs.Math.Seq.{drop-append_seam}

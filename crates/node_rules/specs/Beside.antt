@@ -1,10 +1,9 @@
 -- Machines of one kind side by side, one at each node: the parts of all, and of each thread a local at each node. A call acts
 -- at the parts of its node alone.
-use Rattle.std.specs.Prelude.{◌≡◌, ℕ, ◌+◌, ◌-◌, ◌*◌, ◌<◌, ◌==◌, Bool, true, false, List, [], ◌∷◌, ◌++◌, length, map, drop, fold, Option, Some, None, option_map, slice_get, slice_set, if◌then◌else◌}
-use Rattle.std.specs.List.{range_with_len}
+use Rattle.std.specs.Prelude.{◌≡◌, ℕ, ◌+◌, ◌-◌, ◌*◌, ◌<◌, ◌==◌, true, false, List, [], ◌∷◌, ◌++◌, length, map, drop, Option, Some, None, option_map, slice_get, slice_set, if◌then◌else◌}
 use Rattle.std.specs.Option.{option_and_then, option_flatten, option_map_or}
 use Rattle.tc_model.specs.declared.machine.PartNo.{PartNo}
-use Rattle.tc_model.specs.Run.{Rules, World, start, pick, run}
+use Rattle.tc_model.specs.Run.{Rules, World, pick}
 use Rattle.call_steps.specs.Local.{Decided}
 use Rattle.node_rules.specs.Joined.{bytes_before, shifted}
 
@@ -23,11 +22,6 @@ node_now l = slice_get l.route l.ended
 
 abbrev pub local_now : {L : Type 0} → Beside L → Option L
 local_now l = option_flatten (option_map (slice_get l.here) (node_now l))
-
--- whether this is the node
-abbrev pub is_node : ℕ → Option ℕ → Bool
-is_node k None = false
-is_node k (Some j) = j == k
 
 -- a call that was decided at a node by the thread's act of this number
 abbrev pub decided_at : ℕ → ℕ → ℕ → Decided → Decided
@@ -53,13 +47,9 @@ module _ {P L : Type 0} (one : Rules P L) (answers : L → List Decided) (width 
         answers = l.answers ++ map (decided_at huge k l.acts) (drop (length (answers old)) (answers new));
       }
 
-  abbrev pub after_at : P → Beside L → ℕ → Option L → P × Beside L
-  after_at p l k None = (p, l)
-  after_at p l k (Some x) = ((one.after p x).0, with_act l k x (one.after p x).1)
-
   abbrev pub after_by : P → Beside L → Option ℕ → P × Beside L
   after_by p l None = (p, l)
-  after_by p l (Some k) = after_at p l k (slice_get l.here k)
+  after_by p l (Some k) = option_map_or (λ x. ((one.after p x).0, with_act l k x (one.after p x).1)) (slice_get l.here k) (p, l)
 
   -- the machine of these parts and threads; whether one waits, and whether its act is polite, is told by its node
   abbrev pub beside : List P → List (Beside L) → Rules P (Beside L)
@@ -81,10 +71,9 @@ node_next w t = option_flatten (option_map node_now (slice_get w.locals t))
 -- the picks of an order that act at node k, from a world on
 abbrev pub picks_from : {P L : Type 0} → Rules P (Beside L) → World P (Beside L) → ℕ → List ℕ → List ℕ
 picks_from r w k [] = []
-picks_from r w k (t ∷ ts) = if is_node k (node_next w t) then t ∷ picks_from r (pick r w t) k ts else picks_from r (pick r w t) k ts
-
-abbrev pub picks_at : {P L : Type 0} → Rules P (Beside L) → ℕ → List ℕ → List ℕ
-picks_at r k order = picks_from r (start r) k order
+picks_from r w k (t ∷ ts) =
+    let more = picks_from r (pick r w t) k ts in
+    if option_map_or (λ j. j == k) (node_next w t) false then t ∷ more else more
 
 -- A node's world is what these worlds side by side have there: its parts behind those of the nodes before it, and what each
 -- thread has at it.

@@ -3,7 +3,7 @@ use Rattle.std.specs.Prelude.{◌≡◌, ℕ, ◌+◌, ◌*◌, ◌<◌, ◌≤�
 use Rattle.std.specs.List.{range_with_len}
 use Rattle.tc_units.specs.Units.{huge_bytes}
 use Rattle.tc_model.specs.declared.answers.Answer.{Answer}
-use Rattle.tc_model.specs.declared.answers.Answer.TheVariants.{Block, NoBlock, Freed, FreedNull, Released, Drained, Busy, CapSet, OverLimit, OverStatic}
+use Rattle.tc_model.specs.declared.answers.Answer.TheVariants.{Block, Freed}
 use Rattle.tc_model.specs.declared.answers.CallLine.{CallLine}
 use Rattle.tc_model.specs.Blocks.{IsBlockRun, allocates, frees, live_count, live_bytes}
 
@@ -15,14 +15,7 @@ bytes_before huge k = k * huge * huge_bytes
 abbrev pub shifted : ℕ → Answer → Answer
 shifted n (Block addr len) = Block (record { 0 = addr.0 + n }) len
 shifted n (Freed addr) = Freed (record { 0 = addr.0 + n })
-shifted n NoBlock = NoBlock
-shifted n FreedNull = FreedNull
-shifted n (Released pages) = Released pages
-shifted n (Drained objects) = Drained objects
-shifted n (Busy owner) = Busy owner
-shifted n CapSet = CapSet
-shifted n (OverLimit sum) = OverLimit sum
-shifted n (OverStatic cap) = OverStatic cap
+shifted n other = other
 
 -- a decided call at a node, with the node's own address
 pub record NodeLine : Type 0 where

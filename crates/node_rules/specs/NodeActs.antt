@@ -1,9 +1,10 @@
 -- That a node's parts are what was asked of them makes of them: what a thread asks, and how it goes on by the reply alone; the
 -- acts of a run; and that the run's parts and replies are those of its acts.
-use Rattle.std.specs.Prelude.{◌≡◌, ℕ, ◌*◌, List, [], ◌∷◌, ◌++◌, length, drop, Option, Some, None, option_map, slice_get, slice_set}
-use Rattle.std.specs.Option.{option_and_then, option_or, option_to_list}
+use Rattle.std.specs.Prelude.{◌≡◌, ℕ, ◌+◌, ◌*◌, List, [], ◌∷◌, ◌++◌, length, drop, Option, Some, None, option_map, slice_get, slice_set}
+use Rattle.std.specs.Option.{option_and_then, option_map_or, option_or, option_to_list}
 use Rattle.tc_units.specs.Units.{page_bytes, pages_holding}
 use Rattle.tc_units.specs.declared.spans.ClassRow.{ClassRow}
+use Rattle.tc_units.specs.declared.spans.SpanRef.{SpanRef}
 use Rattle.tc_model.specs.declared.calls.Call.TheVariants.{Malloc, Free, Release}
 use Rattle.tc_model.specs.declared.answers.Answer.TheVariants.{Block, NoBlock, Freed, Released}
 use Rattle.tc_model.specs.Input.{Input}
@@ -23,13 +24,12 @@ use Rattle.call_steps.specs.declared.step.MapStep.TheVariants as map
 use Rattle.call_steps.specs.declared.step.NamesStep.TheVariants.{Publish}
 use Rattle.call_steps.specs.Fronts.{FrontCalls}
 use Rattle.call_steps.specs.Local.{Local, class_row, decided, goes, ends}
-use Rattle.call_steps.specs.Hands.{with_freed, serves, given_back, clears}
+use Rattle.call_steps.specs.Hands.{serves, given_back, clears}
 use Rattle.call_steps.specs.ShardActs.{with_more, fetches}
-use Rattle.call_steps.specs.Acts.{without_first_span, after_lookup, shard_after, heap_after, map_after}
+use Rattle.call_steps.specs.Acts.{found, shard_after, heap_after, map_after}
 use Rattle.alloc_rules.specs.FrontLaw.{IsNotOwn}
-use Rattle.alloc_rules.specs.Machine.{Parts, parts_of, rules}
+use Rattle.alloc_rules.specs.Machine.{parts_of, rules}
 use Rattle.alloc_rules.specs.Valid.{IsValid}
-use Rattle.no_caches.specs.declared.front.NoPart.{NoPart}
 use Rattle.no_caches.specs.NoCaches.{no_calls, no_caches, about_none}
 use Rattle.node_rules.specs.Numa.{NodePart, NodeLocal}
 use Rattle.node_rules.specs.OneNode.{Node, empty_node, ShardAsk, Fetch, Add, Give, HeapAsk, New, GiveBack, Unback, MapAsk, Set, Find, Clear}
@@ -62,13 +62,10 @@ module _ {V R : Type 0} where
   map_asked l other = None
 
   -- what it asks, of whichever part: at the names nothing
-  abbrev pub asked_at : List ClassRow → Local V R → Step R → Option Ask
-  asked_at rows l step =
-      option_or (option_map (OfShard l.regs.class) (shard_asked rows l step))
-      (option_or (option_map OfHeap (heap_asked rows l step)) (option_map OfMap (map_asked l step)))
-
   abbrev pub asked_by : List ClassRow → Local V R → Option Ask
-  asked_by rows l = asked_at rows l l.step
+  asked_by rows l =
+      option_or (option_map (OfShard l.regs.class) (shard_asked rows l l.step))
+      (option_or (option_map OfHeap (heap_asked rows l l.step)) (option_map OfMap (map_asked l l.step)))
 
   -- How the thread goes on by the reply alone: it doesn't see the part.
   abbrev pub resumed : FrontCalls V R → Local V R → Step R → Reply → Local V R
@@ -82,11 +79,11 @@ module _ {V R : Type 0} where
   resumed e l (does.Heap (heap.NewSpan a)) (Got (Some run)) = goes l (does.Map (map.SetSpan a run))
   resumed e l (does.Heap (heap.GiveBack label run)) reply = ends e (decided l (Free label) (Freed (address_of run)))
   resumed e l (does.Heap (heap.FreeSpan next)) reply =
-      let others = drop 1 l.freed.items in clears e (with_freed l (without_first_span l.freed others)) next others
+      let others = drop 1 l.freed.items in clears e (record l { freed = record { items = others; spare = l.freed.spare + 1 } }) next others
   resumed e l (does.Heap (heap.Unback pages)) (Pages given) = ends e (decided l (Release pages) (Released given))
   resumed e l (does.Map (map.Set label run)) reply = goes l (does.Names (Publish label (Some (address_of run))))
   resumed e l (does.Map (map.SetSpan asking run)) reply = goes l (does.Shard (shard.AddFetch asking run))
-  resumed e l (does.Map (map.Lookup label addr)) (Found span) = after_lookup e l label addr span
+  resumed e l (does.Map (map.Lookup label addr)) (Found span) = option_map_or (λ (s : SpanRef). found e l label addr s s.kind) span l
   resumed e l (does.Map (map.Clear label run)) reply = goes l (does.Heap (heap.GiveBack label run))
   resumed e l (does.Map (map.ClearSpan next)) reply = goes l (does.Heap (heap.FreeSpan next))
   resumed e l step reply = l
@@ -103,50 +100,34 @@ module _ {V R : Type 0} where
     pub heap : (h : heaps.Heap) (l : Local V R) → heap_after e h l l.step ≡ left_by e l l.step h (heap_answer h) (heap_asked e.rows l l.step)
     pub map : (m : SpanMap) (l : Local V R) → map_after e m l l.step ≡ left_by e l l.step m (map_answer m) (map_asked l l.step)
 
-abbrev pub PlainWorld : Type 0
-PlainWorld = World NodePart NodeLocal
-
--- a node's parts, with names
-abbrev pub with_names : Node → List NameState → Parts NoPart
-with_names n names = record { fronts = []; shards = n.shards; heap = n.heap; map = n.map; names = names }
-
 -- the shards, the heap and the map of a world are a node's
-pub record HasNode (w : PlainWorld) (n : Node) : Type 0 where
+pub record HasNode (w : World NodePart NodeLocal) (n : Node) : Type 0 where
   pub names : List NameState
-  pub is : w.parts ≡ parts_of 0 (with_names n names)
+  pub is : w.parts ≡ parts_of 0 (record { fronts = []; shards = n.shards; heap = n.heap; map = n.map; names = names })
 
 -- The runs of an input.
 module _ (input : Input) where
   abbrev pub node_rules : Rules NodePart NodeLocal
   node_rules = rules (no_caches input.rows) about_none input.asked
 
-  abbrev pub behind : List ℕ → PlainWorld
-  behind order = run node_rules order
-
-  -- what a pick of a thread asks, and what the picks of an order do from a world on
-  abbrev pub pick_asks : PlainWorld → ℕ → Option Ask
-  pick_asks w t = option_and_then (asked_by input.rows) (slice_get w.locals t)
-
-  abbrev pub acts_from : PlainWorld → List ℕ → List Ask
+  -- what the picks of an order ask from a world on, each what its thread does
+  abbrev pub acts_from : World NodePart NodeLocal → List ℕ → List Ask
   acts_from w [] = []
-  acts_from w (t ∷ order) = option_to_list (pick_asks w t) ++ acts_from (pick node_rules w t) order
+  acts_from w (t ∷ order) = option_to_list (option_and_then (asked_by input.rows) (slice_get w.locals t)) ++ acts_from (pick node_rules w t) order
 
   -- the acts of a run: what was asked, in order
   abbrev pub acts_of : List ℕ → List Ask
   acts_of order = acts_from (start node_rules) order
 
-  -- Behind an order, thread t goes on by the reply whose place is that of its act, and no other thread changes.
-  pub record GoesOn (order : List ℕ) (t : ℕ) (l : NodeLocal) (replies : List Reply) : Type 0 where
-    pub reply : Reply
-    pub is : slice_get replies (length (acts_of order)) ≡ Some reply
-    pub locals : (behind (order ++ t ∷ [])).locals ≡ slice_set (behind order).locals t (resumed (no_calls input.rows) l l.step reply)
-
-  -- The parts of a run are these, and so are the replies to its acts.
+  -- The parts of a run are these, and so are the replies to its acts: behind the earlier picks, thread t goes on by the reply
+  -- whose place is that of its act, and no other thread changes.
   pub record IsRunOf (order : List ℕ) (made : Made) : Type 0 where
-    pub parts : HasNode (behind order) made.parts
+    pub parts : HasNode (run node_rules order) made.parts
     pub many : length made.replies ≡ length (acts_of order)
     pub replies : (earlier : List ℕ) (t : ℕ) (later : List ℕ) (l : NodeLocal) (a : Ask) → earlier ++ t ∷ later ≡ order
-        → slice_get (behind earlier).locals t ≡ Some l → asked_by input.rows l ≡ Some a → GoesOn earlier t l made.replies
+        → slice_get (run node_rules earlier).locals t ≡ Some l → asked_by input.rows l ≡ Some a
+        → (reply : Reply) × (slice_get made.replies (length (acts_of earlier)) ≡ Some reply)
+        × ((run node_rules (earlier ++ t ∷ [])).locals ≡ slice_set (run node_rules earlier).locals t (resumed (no_calls input.rows) l l.step reply))
 
   -- a valid trace of calls that the allocator without caches takes, and an order of picks that move
   pub record IsNodeRun (order : List ℕ) : Type 0 where

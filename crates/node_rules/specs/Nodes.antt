@@ -1,7 +1,7 @@
 -- Memory nodes: the node of a thread, the node at which a call acts, and what each node is asked for.
 use Rattle.std.specs.Prelude.{ℕ, ◌%◌, ◌==◌, List, [], ◌∷◌, map, filter, if◌then◌else◌}
 use Rattle.tc_model.specs.declared.calls.Call.{Call}
-use Rattle.tc_model.specs.declared.calls.Call.TheVariants.{Malloc, Free, Release, Drain, Resize}
+use Rattle.tc_model.specs.declared.calls.Call.TheVariants.{Free}
 use Rattle.tc_model.specs.declared.config.Config.{Config}
 use Rattle.tc_model.specs.Input.{Asked, Input, ThreadCall}
 use Rattle.tc_model.specs.Blocks.{allocates}
@@ -16,13 +16,10 @@ maker label [] = 0
 maker label (c ∷ cs) = if allocates label c.planned.call then c.thread.0 else maker label cs
 
 module _ (nodes : ℕ) (asked : Asked) where
-  -- the node at which a call acts: an allocation and a release at its thread's node, a free at that of its label's block
+  -- the node at which a call acts: a free at that of its label's block, and any other at its thread's node
   abbrev pub acts_at : ℕ → Call → ℕ
-  acts_at t (Malloc label size) = home nodes asked.config t
   acts_at t (Free label) = home nodes asked.config (maker label.0 asked.calls)
-  acts_at t (Release pages) = home nodes asked.config t
-  acts_at t (Drain cpu) = home nodes asked.config t
-  acts_at t (Resize cpu class cap) = home nodes asked.config t
+  acts_at t other = home nodes asked.config t
 
   abbrev pub node_of : ThreadCall → ℕ
   node_of c = acts_at c.thread.0 c.planned.call

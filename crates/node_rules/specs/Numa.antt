@@ -1,13 +1,11 @@
 -- The machine of memory nodes: at each one the allocator without caches, for the calls that act there.
-use Rattle.std.specs.Prelude.{ℕ, ◌+◌, ◌*◌, List, [], ◌++◌, length, map, fold}
+use Rattle.std.specs.Prelude.{ℕ, ◌+◌, List, [], ◌++◌, length, map, fold}
 use Rattle.std.specs.List.{range_with_len}
 use Rattle.tc_model.specs.declared.answers.CallLine.{CallLine}
-use Rattle.tc_model.specs.declared.answers.Finished.{Finished}
-use Rattle.tc_model.specs.Blocks.{live_count, live_bytes}
 use Rattle.tc_model.specs.Calls.{calls_of}
 use Rattle.tc_model.specs.Input.{Input}
-use Rattle.tc_model.specs.Run.{Rules, run}
-use Rattle.call_steps.specs.Local.{Local, Decided, told, first_local}
+use Rattle.tc_model.specs.Run.{Rules}
+use Rattle.call_steps.specs.Local.{Local, Decided, told}
 use Rattle.alloc_rules.specs.declared.part.Part.{Part}
 use Rattle.alloc_rules.specs.Machine.{rules, first_of}
 use Rattle.no_caches.specs.declared.front.NoPart.{NoPart}

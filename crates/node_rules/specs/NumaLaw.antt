@@ -1,5 +1,5 @@
 -- What holds of memory nodes between any two picks, in every order of their threads' picks.
-use Rattle.std.specs.Prelude.{◌≡◌, ℕ, ◌+◌, ◌*◌, ◌^◌, ◌<◌, ◌≤◌, ◌==◌, Bool, false, List, length, map, take, drop, filter, count_by, All, Option, Some, None, slice_get}
+use Rattle.std.specs.Prelude.{◌≡◌, ℕ, ◌+◌, ◌^◌, ◌<◌, ◌≤◌, ◌==◌, Bool, false, List, length, map, take, drop, count_by, All, Option, Some, None, IsSomeAnd, slice_get}
 use Rattle.tc_units.specs.Classes.{length_of}
 use Rattle.tc_units.specs.declared.spans.ClassRow.{ClassRow}
 use Rattle.tc_model.specs.declared.answers.Answer.{Answer}
@@ -7,7 +7,7 @@ use Rattle.tc_model.specs.declared.answers.Answer.TheVariants.{Block, Freed}
 use Rattle.tc_model.specs.declared.machine.TheConstants.{MOST_PICKS}
 use Rattle.tc_model.specs.Calls.{picks_of, AreRising}
 use Rattle.tc_model.specs.Input.{Input}
-use Rattle.tc_model.specs.Run.{World, run}
+use Rattle.tc_model.specs.Run.{World, start, run}
 use Rattle.tc_model.specs.Replays.{HaveEnded}
 use Rattle.tc_model.specs.Serial.{AreThreads, NeverWaits, Rises, Ends}
 use Rattle.tc_model.specs.Sound.{IsOrder, IsSound}
@@ -23,7 +23,7 @@ use Rattle.node_rules.specs.Joined.{NodeLine, told_line, lines_at, AreJoined}
 use Rattle.node_rules.specs.OneNode.{node}
 use Rattle.node_rules.specs.NodeActs.{acts_of, IsRunOf}
 use Rattle.node_rules.specs.Nodes.{acts_at, asked_at, input_at, route_of}
-use Rattle.node_rules.specs.Beside.{Beside, local_now, picks_at, IsNodeOf}
+use Rattle.node_rules.specs.Beside.{Beside, local_now, picks_from, IsNodeOf}
 use Rattle.node_rules.specs.Numa.{NodePart, NodeLocal, width_of, rules_at, numa_rules, numa_calls}
 
 -- how many of a thread's calls are decided and under way
@@ -36,11 +36,6 @@ abbrev pub IsLow : Answer → Type 0
 IsLow (Block addr len) = addr.0 < 2 ^ 34
 IsLow (Freed addr) = addr.0 < 2 ^ 34
 IsLow other = Unit {0}
-
--- a part fits what a thread has at the node of its call
-abbrev pub FitsNow : List ClassRow → NodePart → Option NodeLocal → Type 0
-FitsNow rows p None = ⊥
-FitsNow rows p (Some x) = Fits rows fits p x
 
 -- whether the act waits there
 abbrev pub waits_now : NodePart → Option NodeLocal → Bool
@@ -55,8 +50,9 @@ pub record IsOneAct (x new : NodeLocal) : Type 0 where
   pub next : new.ended ≤ x.ended + 1
   pub low : All (λ (d : Decided). IsLow d.answer) (drop (length x.answers) new.answers)
 
+-- a part fits what a thread has at the node of its call, its numbers are few, and an act there is one
 pub record FitsThread (rows : List ClassRow) (p : NodePart) (l : Beside NodeLocal) : Type 0 where
-  pub now : FitsNow rows p (local_now l)
+  pub now : IsSomeAnd (local_now l) (Fits rows fits p)
   pub acts : l.acts ≤ MOST_PICKS
   pub ended : l.ended ≤ MOST_PICKS
   pub goes : (x : NodeLocal) → local_now l ≡ Some x → waits p x ≡ false → IsOneAct x (after (no_caches rows) about_none p x).1
@@ -64,7 +60,7 @@ pub record FitsThread (rows : List ClassRow) (p : NodePart) (l : Beside NodeLoca
 module _ (nodes : ℕ) (input : Input) where
   -- the picks of an order that act at node k, and that node's run of them
   abbrev pub order_at : ℕ → List ℕ → List ℕ
-  order_at k order = picks_at (numa_rules nodes input) k order
+  order_at k order = picks_from (numa_rules nodes input) (start (numa_rules nodes input)) k order
 
   abbrev pub world_at : ℕ → List ℕ → World NodePart NodeLocal
   world_at k order = run (rules_at nodes input k) (order_at k order)

@@ -1,6 +1,7 @@
 -- What a node makes of a list of acts: what may be asked of its parts, what they reply, and how they stand then. A node is one
 -- allocator without caches: its shards, its page heap and its page map, with nothing of the threads that ask.
 use Rattle.std.specs.Prelude.{ℕ, ◌/◌, List, [], ◌∷◌, find, fold, Option, Some, None, slice_set}
+use Rattle.std.specs.Option.{option_map_or}
 use Rattle.tc_units.specs.Units.{page_bytes}
 use Rattle.tc_units.specs.declared.units.Addr.{Addr}
 use Rattle.tc_units.specs.declared.units.Class.{Class}
@@ -68,12 +69,8 @@ shard_answer s (Fetch n) = (after_fetch n s, Objects (fetched n s))
 shard_answer s (Add span n) = (with_spans s (with_new (opened span s.central.row.size n) s.central.spans), Objects (opening span s.central.row.size n))
 shard_answer s (Give objects) = (after_give objects s, Left (freed_by objects s))
 
-abbrev pub placed_answer : heaps.Heap → Option Placed → heaps.Heap × Reply
-placed_answer h None = (h, Got None)
-placed_answer h (Some p) = (p.heap, Got (Some p.run))
-
 abbrev pub heap_answer : heaps.Heap → HeapAsk → heaps.Heap × Reply
-heap_answer h (New n) = placed_answer h (new h n)
+heap_answer h (New n) = option_map_or (λ (placed : Placed). (placed.heap, Got (Some placed.run))) (new h n) (h, Got None)
 heap_answer h (GiveBack run) = (freed h run, Nothing)
 heap_answer h (Unback n) = ((release h n).heap, Pages (release h n).pages)
 

@@ -1,5 +1,5 @@
 -- An act of a thread at the node of its call, as the machine of all nodes has it.
-use Rattle.std.proofs.Common.{◌≡◌, ℕ, zero, suc, ◌+◌, ◌-◌, ◌<◌, ◌≤◌, Bool, true, false, cond, List, [], ◌∷◌, ◌++◌, length, map, drop, get_or, Option, Some, None, refl, sym, ap, ◌∙◌, subst, arith}
+use Rattle.std.proofs.Common.{◌≡◌, ℕ, zero, suc, ◌+◌, ◌-◌, ◌<◌, ◌≤◌, Bool, true, false, cond, List, [], ◌∷◌, ◌++◌, length, map, drop, get_or, Option, Some, None, IsSomeAnd, refl, sym, ap, ◌∙◌, subst, arith}
 use Rattle.std.specs.Prelude.{slice_get, slice_set, option_map}
 use Rattle.std.specs.Option.{option_flatten, option_to_list}
 use Rattle.std.proofs.lemmas.List.{length-map, map-append}
@@ -12,8 +12,9 @@ use Rattle.tc_model.specs.declared.machine.Acted.{Acted}
 use Rattle.tc_model.specs.Steps.{acted}
 use Rattle.tc_model.specs.Run.{tried}
 use Rattle.call_steps.specs.Local.{Decided}
+use Rattle.alloc_rules.specs.Fits.{Fits}
 use Rattle.alloc_rules.specs.Machine.{after, waits}
-use Rattle.no_caches.specs.NoCaches.{no_caches, about_none}
+use Rattle.no_caches.specs.NoCaches.{no_caches, about_none, fits}
 use Rattle.call_steps.specs.declared.setting.Setting.{Setting}
 use Rattle.alloc_rules.specs.Inputs.{setting_of}
 use Rattle.numa_heaps.specs.declared.local.Told.{Told}
@@ -22,7 +23,7 @@ use Rattle.numa_heaps.specs.declared.nodes.NodeNo.{NodeNo}
 use Rattle.node_rules.specs.Beside.{Beside, node_now, local_now, decided_at, with_act}
 use Rattle.numa_heaps.specs.Local.{decided_of, thread_of, IsGone}
 use Rattle.node_rules.specs.Numa.{NodeLocal, NodePart, width_of, rules_at, numa_rules}
-use Rattle.node_rules.specs.NumaLaw.{FitsNow, IsOneAct}
+use Rattle.node_rules.specs.NumaLaw.{IsOneAct}
 
 -- what is behind n of at most one more
 pub one_new : (huge k act n : ℕ) (ds : List Decided) (told : Told) → n < length ds → length ds ≤ n + 1
@@ -44,14 +45,14 @@ pub record IsHere (l : Beside NodeLocal) (k : ℕ) : Type 0 where
   pub here : slice_get l.here k ≡ Some x
   pub now : local_now l ≡ Some x
 
-here_by : (rows : List ClassRow) (p : NodePart) (l : Beside NodeLocal) (k : ℕ) (o : Option NodeLocal) → slice_get l.here k ≡ o → local_now l ≡ o → FitsNow rows p o → IsHere l k
-here_by rows p l k None here now fits = absurd fits
-here_by rows p l k (Some x) here now fits = record { x = x; here = here; now = now }
+here_by : (rows : List ClassRow) (p : NodePart) (l : Beside NodeLocal) (k : ℕ) (o : Option NodeLocal) → slice_get l.here k ≡ o → local_now l ≡ o → IsSomeAnd o (Fits rows fits p) → IsHere l k
+here_by rows p l k None here now fitting = absurd fitting
+here_by rows p l k (Some x) here now fitting = record { x = x; here = here; now = now }
 
-pub is_here : (rows : List ClassRow) (p : NodePart) (l : Beside NodeLocal) (k : ℕ) → node_now l ≡ Some k → FitsNow rows p (local_now l) → IsHere l k
-is_here rows p l k now fits =
+pub is_here : (rows : List ClassRow) (p : NodePart) (l : Beside NodeLocal) (k : ℕ) → node_now l ≡ Some k → IsSomeAnd (local_now l) (Fits rows fits p) → IsHere l k
+is_here rows p l k now fitting =
     let local : local_now l ≡ slice_get l.here k = ap (λ o. option_flatten (option_map (slice_get l.here) o)) now in
-    here_by rows p l k (slice_get l.here k) refl local (subst (FitsNow rows p) local fits)
+    here_by rows p l k (slice_get l.here k) refl local (subst (λ o. IsSomeAnd o (Fits rows fits p)) local fitting)
 
 module _ (nodes : ℕ) (input : Input) (p : NodePart) (l : Beside NodeLocal) (k : ℕ) (x : NodeLocal) (now : node_now l ≡ Some k) (here : slice_get l.here k ≡ Some x) where
   waits_is : (numa_rules nodes input).waits p l ≡ waits p x
@@ -100,12 +101,12 @@ module _ (nodes : ℕ) (input : Input) (setting : Setting) (same : setting_of in
 -- what the code finds at its node
 module _ (rows : List ClassRow) (p : NodePart) (here : List NodeLocal) (route : List NodeNo) (place acts : ℕ) (answers : List Told) (self : Beside NodeLocal)
     (view : thread_of here route place acts answers ≡ self) (o : Option NodeNo) (node : NodeNo) (some : o ≡ Some node)
-    (now : node_now self ≡ option_map (λ (n : NodeNo). n.0) o) (fits : FitsNow rows p (local_now self)) (x : NodeLocal) (i : ℕ) (at : i ≡ node.0) (item : x ≡ get_or here i x) where
+    (now : node_now self ≡ option_map (λ (n : NodeNo). n.0) o) (fitting : IsSomeAnd (local_now self) (Fits rows fits p)) (x : NodeLocal) (i : ℕ) (at : i ≡ node.0) (item : x ≡ get_or here i x) where
   pub node_is : node_now (thread_of here route place acts answers) ≡ Some i
   node_is = ap (λ (l : Beside NodeLocal). node_now l) view ∙ (now ∙ (ap (option_map (λ (n : NodeNo). n.0)) some ∙ ap (λ n. Some n) (sym at)))
 
   pub found : IsHere (thread_of here route place acts answers) i
-  found = is_here rows p (thread_of here route place acts answers) i node_is (subst (λ (l : Beside NodeLocal). FitsNow rows p (local_now l)) (sym view) fits)
+  found = is_here rows p (thread_of here route place acts answers) i node_is (subst (λ (l : Beside NodeLocal). IsSomeAnd (local_now l) (Fits rows fits p)) (sym view) fitting)
 
   pub here_is : slice_get here i ≡ Some x
   here_is = found.here ∙ ap (λ (y : NodeLocal). Some y) (sym (item ∙ get_or_from_slice_get here i found.x x found.here))

@@ -1,31 +1,13 @@
 -- The filler's choice by its measures is that of the heap.
-use Rattle.std.proofs.Common.{◌≡◌, ℕ, zero, suc, ◌+◌, ◌-◌, ◌<◌, ◌≤◌, ◌⊎◌, Bool, true, false, List, [], ◌∷◌, length}
-use Rattle.std.proofs.Common.{get_or, filter, All, Contains, Option, Some, IfSome, refl, sym, ap, subst, ◌∙◌, inl, inr, arith}
-use Rattle.page_heap.proofs.Common.{range_with_len, cases_Bool, cases_eq, leb-true, le-leb, length-map, get_or-map, All-head, All-tail}
-use Rattle.page_heap.proofs.Common.{length-range_with_len, get_or-range_with_len, none-some, same_Some, Run, first_of_two, first_least, first_least-all, Heap}
+use Rattle.std.proofs.Common.{◌≡◌, ℕ, ◌+◌, ◌-◌, ◌<◌, ◌≤◌, true, false, List, [], ◌∷◌, length}
+use Rattle.std.proofs.Common.{get_or, filter, All, Contains, Option, Some, refl, sym, ap, subst, ◌∙◌, inl, inr, arith}
+use Rattle.page_heap.proofs.Common.{range_with_len, cases_Bool, cases_eq, leb-true, le-leb, length-map, get_or-map}
+use Rattle.page_heap.proofs.Common.{length-range_with_len, get_or-range_with_len, none-some, same_Some, Run, first_least, Heap}
 use Rattle.page_heap.proofs.Common.{Hugepage, hugepage, numbers, longest_range, is_filler, FillerRow, filler_row, filler_rows, IsHugepageOf, IsRowWithRoom}
 use Rattle.page_heap.proofs.Common.{rows_fit, filter_holds, Huge, Measures, measures_at, prefers, IsPreferred, measures_of, measured, measures, nat_tests}
 use Rattle.heap_rules.specs.FillerRows.{is_preferred, has_room}
+use Rattle.range_bits.proofs.Least.{least_is_first}
 use Rattle.page_heap.proofs.Frames.{length-measures, measures_there, measured_none, measured_some}
-
--- One that comes before each other one is the first.
-abbrev IsBehind : {X : Type 0} → (X → X → Bool) → X → X → Type 0
-IsBehind less r x = (x ≡ r) ⊎ ((less r x ≡ true) × (less x r ≡ false))
-
-keeps_first : {X : Type 0} (less : X → X → Bool) (r : X) (o : Option X) → IfSome o (IsBehind less r) → first_of_two less r o ≡ r
-keeps_first less r o h = grind (arith, nat_tests)
-
-passes_on : {X : Type 0} (less : X → X → Bool) (r x : X) → IsBehind less r x → first_of_two less x (Some r) ≡ r
-passes_on less r x h = grind (arith, nat_tests)
-
-first_is : {X : Type 0} (less : X → X → Bool) (xs : List X) (r : X) (k : ℕ) (d : X) → k < length xs → get_or xs k d ≡ r → All (IsBehind less r) xs → first_least less xs ≡ Some r
-first_is less [] r k d l at all = absurd (omega arith)
-first_is less (x ∷ xs) r zero d l at all =
-    let rest = first_least-all (IsBehind less r) less xs (All-tail (IsBehind less r) x xs all) in
-    ap (λ y. Some (first_of_two less y (first_least less xs))) at ∙ ap Some (keeps_first less r (first_least less xs) rest)
-first_is less (x ∷ xs) r (suc k) d l at all =
-    let rest = first_is less xs r k d (omega arith) at (All-tail (IsBehind less r) x xs all) in
-    ap (λ o. Some (first_of_two less x o)) rest ∙ ap Some (passes_on less r x (All-head (IsBehind less r) x xs all))
 
 -- No two are each before the other.
 one_way : (a b : FillerRow) → is_preferred a b ≡ true → is_preferred b a ≡ false
@@ -65,7 +47,7 @@ module _ (heap : Heap) (n : ℕ) where
   preferred_is huge is own its to =
       let h : ℕ = huge.0 in let rows = filter (has_room n) (filler_rows heap) in
       let has = row_there h is.from to own (subst (λ (m : Measures). n ≤ m.longest) its is.room) in
-      first_is is_preferred rows (filler_row heap h) has.0 (filler_row heap h) has.1 has.2
+      least_is_first is_preferred (filler_row heap h) rows has
       (λ k d l.
       (let row = get_or rows k d in
       let fit : IsRowWithRoom heap n row = rows_fit heap n k d l in

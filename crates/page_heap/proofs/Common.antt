@@ -9,21 +9,22 @@ pub use Rattle.heap_rules.proofs.Left.{count_rest, fewer, left_kinds, left_runs,
 pub use Rattle.heap_rules.proofs.Live.{Contains-filter, count-with, counts_used, filter_holds, unused_counts, used_counts, used_with_new}
 pub use Rattle.heap_rules.proofs.Longest.{prefix_long}
 pub use Rattle.heap_rules.proofs.Numbered.{at_number-next, at_number-place}
-pub use Rattle.heap_rules.proofs.Places.{at, at-each, at-next, backs-map, each_each, each_is, each_where, idle_at, length-each, map-at, map-place, page_of}
+pub use Rattle.heap_rules.proofs.Places.{at, at-each, at-next, backs-map, each_each, each_is, each_where, filler_row, idle_at, length-each, map-at, map-place, page_of}
+pub use Rattle.heap_rules.proofs.Places.{region_row_of, spare_rows}
 pub use Rattle.heap_rules.proofs.Released.{free_sound, idle_sound, release_keeps, spare_sound}
 pub use Rattle.heap_rules.proofs.Remade.{here, remade}
-pub use Rattle.heap_rules.specs.Choice.{filler_row, filler_rows, hugepages_for, region_row_of, region_rows, run_choice, taken_row, unready_row}
-pub use Rattle.heap_rules.specs.FillerRows.{FillerRow, filler_place, place_in_row}
+pub use Rattle.heap_rules.specs.Choice.{filler_rows, hugepages_for, region_rows, run_choice, taken_row, unready_row}
+pub use Rattle.heap_rules.specs.FillerRows.{FillerRow, filler_place}
 pub use Rattle.heap_rules.specs.Free.{given_back, left_by, used_regions, without_unused_regions}
 pub use Rattle.heap_rules.specs.Heap.{Heap, Hugepage, allocation_count, backed_count, backed_pages, backs, each, hugepage, is_filler, is_free}
-pub use Rattle.heap_rules.specs.Heap.{is_free_backed, is_kind_filler, is_kind_free, is_kind_region, is_region, is_used, longest_range, numbers, opened}
+pub use Rattle.heap_rules.specs.Heap.{is_free_backed, is_kind, is_region, is_used, longest_range, numbers, opened}
 pub use Rattle.heap_rules.specs.Heap.{pages_of, reaches, region_row, row_of, run_at, spans, tier, untouched, used_count, used_pages, used_row, with_run}
 pub use Rattle.heap_rules.specs.Laws.{BacksNone, IsGiven, IsReleased, IsRid}
 pub use Rattle.heap_rules.specs.New.{Placed, all_backed, filler_page, in_filler, in_fresh, in_new_region, in_region, more_backed, new_unsettled, new_whole}
-pub use Rattle.heap_rules.specs.New.{none_fits, placed, region_page, run_or_tail, run_page, settled_placed, slack, with_new_region}
-pub use Rattle.heap_rules.specs.RegionRows.{RegionRow, place_in_region, region_place}
-pub use Rattle.heap_rules.specs.Release.{Released, after_free, after_regions, free_given, idle_given, is_idle, only_used, release}
-pub use Rattle.heap_rules.specs.Release.{spare_given, spare_pages, spare_row, spare_rows, whole_given}
+pub use Rattle.heap_rules.specs.New.{none_fits, placed, region_page, run_or_tail, run_page, slack, with_new_region}
+pub use Rattle.heap_rules.specs.RegionRows.{RegionRow, region_place}
+pub use Rattle.heap_rules.specs.Release.{Released, free_given, idle_given, is_idle, only_used, release}
+pub use Rattle.heap_rules.specs.Release.{spare_given, spare_pages, spare_row, whole_given}
 pub use Rattle.heap_rules.specs.Settle.{counted, settled, unbacked}
 pub use Rattle.heap_rules.specs.Sound.{AreLimits, AreRunsSound, HasNoUsed, IsHugepageOf, IsInside, IsRegion, IsSound}
 pub use Rattle.heap_rules.specs.declared.config.HeapConfig.{HeapConfig}
@@ -42,7 +43,7 @@ pub use Rattle.page_heap.specs.Told.{IsTold, measures_by, remeasured, with_freed
 pub use Rattle.page_heap.specs.declared.heap.PageHeap.TheInside.{Inside}
 pub use Rattle.range_bits.proofs.Placing.{get_or-with_places, length-with_places}
 pub use Rattle.range_bits.proofs.RangeLemmas.{filter-agree, first_least-all, range-within}
-pub use Rattle.range_bits.specs.Ranges.{best, first_least, first_of_two, free_from, longest, with_places}
+pub use Rattle.range_bits.specs.Ranges.{best, first_least, free_from, longest, with_places}
 pub use Rattle.std.proofs.lemmas.Bool.Decides.{nat_tests}
 pub use Rattle.std.proofs.lemmas.Bool.{and_left, and_parts, and_right, cases_Bool, cases_eq, cases_lt, false_from_ne_true}
 pub use Rattle.std.proofs.lemmas.Bool.{false≢true, le-leb, le-ltb, leb-true, lt-leb, lt-ltb, ne_eqb, not-true, not_from_false}

@@ -1,8 +1,9 @@
 -- Runs below a hugepage's pages, in a hugepage of the filler that has room.
-use Rattle.std.proofs.Common.{◌≡◌, ℕ, ◌+◌, ◌*◌, ◌/◌, ◌%◌, ◌^◌, ◌<◌, ◌≤◌, true, false, cond, filter, length, Option, Some, None, IfSome, refl, sym, ap}
+use Rattle.std.proofs.Common.{◌≡◌, ℕ, ◌+◌, ◌*◌, ◌/◌, ◌%◌, ◌^◌, ◌<◌, ◌≤◌, true, false, cond, filter, length, Option, Some, None, IfSome, option_map, option_and_then, refl, sym, ap}
 use Rattle.std.proofs.Common.{subst, ◌∙◌, inl, inr, arith}
+use Rattle.tc_units.specs.declared.rows.RowKind.TheVariants as kind
 use Rattle.page_heap.proofs.Common.{none-some, Run, best, first_least, first_least-all, Heap, Hugepage, hugepage, reaches, run_at, used_row, is_free}
-use Rattle.page_heap.proofs.Common.{is_filler, is_region, is_kind_free, is_kind_filler, is_kind_region, FillerRow, place_in_row, filler_place, filler_rows}
+use Rattle.page_heap.proofs.Common.{is_filler, is_region, is_kind, FillerRow, filler_place, filler_rows}
 use Rattle.page_heap.proofs.Common.{more_backed, in_filler, IsHugepageOf, IsSound, IsGiven, mapped, IsFitting, IsRowWithRoom, rows_fit, AreUnused}
 use Rattle.page_heap.proofs.Common.{unused_at, given_filler, is_Filler, at, here, reaches_parts, is_Free, IsSpan, Inside, IsRouted, remeasured}
 use Rattle.heap_rules.specs.FillerRows.{is_preferred, has_room}
@@ -26,7 +27,8 @@ filled_at heap n page h s sound some fit are e =
       given = subst (λ p. IsGiven heap n (in_filler heap n p)) e (given_filler heap n h s sound some fit are);
     }
 
-filled_by : (heap : Heap) (n page : ℕ) → IsSound heap → 0 < n → (o : Option FillerRow) → IfSome o (IsRowWithRoom heap n) → place_in_row n o ≡ Some page → IsFilled heap n page
+filled_by : (heap : Heap) (n page : ℕ) → IsSound heap → 0 < n → (o : Option FillerRow) → IfSome o (IsRowWithRoom heap n)
+    → option_and_then (λ (row : FillerRow). option_map (λ start. 256 * row.number + start) (best row.used n)) o ≡ Some page → IsFilled heap n page
 filled_by heap n page sound some None is e = absurd (none-some page e)
 filled_by heap n page sound some (Some row) is e =
     let of = mapped (λ start. 256 * row.number + start) (best row.used n) page e in let s : ℕ = of.0 in
@@ -39,13 +41,13 @@ filled heap n page sound some e = filled_by heap n page sound some (first_least 
     (first_least-all (IsRowWithRoom heap n) is_preferred (filter (has_room n) (filler_rows heap)) (rows_fit heap n)) e
 
 pub filler_not_free : (x : Hugepage) → is_filler x ≡ true → is_free x ≡ false
-filler_not_free x e = ap is_kind_free (is_Filler x.kind e)
+filler_not_free x e = ap (is_kind kind.Free) (is_Filler x.kind e)
 
 filler_not_region : (x : Hugepage) → is_filler x ≡ true → is_region x ≡ false
-filler_not_region x e = ap is_kind_region (is_Filler x.kind e)
+filler_not_region x e = ap (is_kind kind.Region) (is_Filler x.kind e)
 
 pub free_not_filler : (x : Hugepage) → is_free x ≡ true → is_filler x ≡ false
-free_not_filler x e = ap is_kind_filler (is_Free x.kind e)
+free_not_filler x e = ap (is_kind kind.Filler) (is_Free x.kind e)
 
 -- What the calls ask as a run comes there, and what it makes.
 pub record IsJoining (old : Inside) (heap : Heap) (n page : ℕ) : Type 0 where

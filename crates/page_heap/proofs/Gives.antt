@@ -5,7 +5,7 @@ use Rattle.page_heap.proofs.Common.{list_all, range_with_len, cases_lt, cases_eq
 use Rattle.page_heap.proofs.Common.{length-map, length-set, length-drop, get_or-drop, get_or_default, get_or_past, length-range_with_len}
 use Rattle.page_heap.proofs.Common.{length-map-range_with_len, count_by-le-length, Huge, count-cons, count_none, one-true, range-within, Heap, Hugepage}
 use Rattle.page_heap.proofs.Common.{hugepage, numbers, spans, run_at, used_count, is_free, is_region, is_free_backed, unbacked, counted}
-use Rattle.page_heap.proofs.Common.{settled, Released, whole_given, free_given, is_idle, idle_given, spare_given, after_regions, after_free, release}
+use Rattle.page_heap.proofs.Common.{settled, Released, whole_given, free_given, is_idle, idle_given, spare_given, release}
 use Rattle.page_heap.proofs.Common.{IsHugepageOf, IsSound, at_number-place, at_number-next, at, length-each, each_is, each_where, each_each, map-at}
 use Rattle.page_heap.proofs.Common.{idle_at, free_sound, idle_sound, here, sum-adds, unbacked_span, over_limit, behind, AreLast, IsLast, nat_tests}
 use Rattle.heap_rules.specs.Numbered.{at_number}
@@ -250,21 +250,13 @@ settled_is heap =
     (λ k from to. (let x = at heap.hugepages k in ap (λ b. cond b (unbacked x) x) (over_is flags m k from (omega arith) ∙ ap (λ c. gives_whole flags (256 * (c - m)) k) count))))
 
 -- A release from its three steps.
-after_regions_by : (n b c : ℕ) (given after : Heap) → spare_given given (n - b) ≡ record { heap = after; pages = c } →
-    after_regions n (record { heap = given; pages = b }) ≡ record { heap = after; pages = b + c }
-after_regions_by n b c given after e = ap (λ (r : Released). record r { pages = b + r.pages }) e
-
-after_free_by : (n a b c : ℕ) (given between after : Heap) → idle_given given (n - a) ≡ record { heap = between; pages = b } →
-    spare_given between (n - (a + b)) ≡ record { heap = after; pages = c } →
-    after_free n (record { heap = given; pages = a }) ≡ record { heap = after; pages = a + b + c }
-after_free_by n a b c given between after e f = ap (λ (r : Released). after_regions n (record r { pages = a + r.pages })) e ∙ after_regions_by n (a + b) c between after f
-
 pub released_by : (given first second third : Heap) (n m k a b c : ℕ) → m ≡ n - a → k ≡ n - (a + b) →
     free_given given n ≡ record { heap = first; pages = a } → idle_given first m ≡ record { heap = second; pages = b } →
     spare_given second k ≡ record { heap = third; pages = c } → release given n ≡ record { heap = third; pages = a + b + c }
 released_by given first second third n m k a b c p q e f g =
-    ap (after_free n) e
-    ∙ after_free_by n a b c first second third (ap (idle_given first) (sym p) ∙ f) (ap (spare_given second) (sym q) ∙ g)
+    ap (λ (x : Released). (let y = idle_given x.heap (n - x.pages) in let z = spare_given y.heap (n - (x.pages + y.pages)) in record z { pages = x.pages + y.pages + z.pages })) e
+    ∙ (ap (λ (y : Released). (let z = spare_given y.heap (n - (a + y.pages)) in record z { pages = a + y.pages + z.pages })) (ap (idle_given first) (sym p) ∙ f)
+    ∙ ap (λ (z : Released). record z { pages = a + b + z.pages }) (ap (spare_given second) (sym q) ∙ g))
 
 -- A loop that gives until enough was given, by what one step makes of what is left to give.
 module _ (give : Heap → ℕ → Released) where

@@ -1,7 +1,7 @@
 -- Unused hugepages of regions that are backed: which is the last.
 use Rattle.std.proofs.Common.{◌≡◌, ℕ, ◌<◌, ◌≤◌, true, false, ◌==◌, ◌&&◌, length, Some, None, sym, ap, ◌∙◌, inl, inr, arith}
 use Rattle.page_heap.proofs.Common.{cases_Bool, cases_lt, and_left, get_or_past, none-some, RowView, Heap, hugepage}
-use Rattle.page_heap.proofs.Common.{row_of, is_kind_region, is_region, RegionRow, region_row_of, is_idle, IsHugepageOf, IsSound}
+use Rattle.page_heap.proofs.Common.{row_of, is_kind, used_count, is_region, RegionRow, region_row_of, is_idle, IsHugepageOf, IsSound}
 use Rattle.page_heap.proofs.Common.{serves_at, spans_parts, is_Region, Regions, region_with, Inside, regions_of, nat_tests}
 use Rattle.tc_units.specs.declared.rows.RowKind.TheVariants as kind
 use Rattle.page_heap.proofs.Measured.{backed_whole}
@@ -27,8 +27,8 @@ not_idle heap h e = and_left _ _ (and_left _ _ e)
 
 -- as it is shown
 pub idle_shown : (heap : Heap) (h : ℕ) (row : RowView) → IsSound heap → IsHugepageOf heap.config.huge h → row ≡ row_of heap h →
-    (is_kind_region row.kind && row.used == 0 && row.backed == 256) ≡ is_idle heap h
-idle_shown heap h row sound own e = grind (arith, nat_tests, backed_whole)
+    (is_kind kind.Region row.kind && row.used == 0 && row.backed == 256) ≡ is_idle heap h
+idle_shown heap h row sound own e = rw e (ap (λ b. is_region (hugepage heap h) && used_count heap.runs h == 0 && b) (backed_whole heap sound h own))
 
 -- where no region has a hugepage, it isn't idle
 pub idle_nowhere : {t : Inside} {heap : Heap} → IsHeap t heap → (h : ℕ) → region_with t.regions h ≡ None → is_idle heap h ≡ false

@@ -1,8 +1,9 @@
 -- A run in a region that has room.
-use Rattle.std.proofs.Common.{◌≡◌, ℕ, ◌+◌, ◌-◌, ◌*◌, ◌/◌, ◌^◌, ◌<◌, ◌≤◌, true, false, cond, length, filter, Contains, Option, Some, IfSome, refl}
+use Rattle.std.proofs.Common.{◌≡◌, ℕ, ◌+◌, ◌-◌, ◌*◌, ◌/◌, ◌^◌, ◌<◌, ◌≤◌, true, false, cond, length, filter, Contains, Option, Some, IfSome, option_map, option_and_then, refl}
 use Rattle.std.proofs.Common.{ap, subst, ◌∙◌, inr, arith}
+use Rattle.tc_units.specs.declared.rows.RowKind.TheVariants as kind
 use Rattle.page_heap.proofs.Common.{All-contains, none-some, Run, best, first_least, free_from, first_least-all, Heap, Hugepage, hugepage, reaches, run_at}
-use Rattle.page_heap.proofs.Common.{region_row, is_free, is_filler, is_region, is_kind_free, is_kind_filler, spans, RegionRow, place_in_region}
+use Rattle.page_heap.proofs.Common.{region_row, is_free, is_filler, is_region, is_kind, spans, RegionRow}
 use Rattle.page_heap.proofs.Common.{region_place, region_row_of, region_rows, all_backed, in_region, IsRegion, AreRunsSound, IsSound, IsGiven}
 use Rattle.page_heap.proofs.Common.{unused_at, reaches_parts, is_Region, spans_from, used_with_new, at, IsSpan, reached_by, Regions, region_with}
 use Rattle.page_heap.proofs.Common.{with_changed, joined, start_in, AreFreeIn, Inside, measures, cache_of, regions_of, nat_tests}
@@ -17,10 +18,10 @@ use Rattle.page_heap.proofs.Routed.{routed_with}
 use Rattle.page_heap.proofs.Results.{IsHeap, IsMade, fits_used, came_made}
 
 pub region_no_filler : (x : Hugepage) → is_region x ≡ true → is_filler x ≡ false
-region_no_filler x e = ap is_kind_filler (is_Region x.kind e)
+region_no_filler x e = ap (is_kind kind.Filler) (is_Region x.kind e)
 
 pub region_busy : (x : Hugepage) → is_region x ≡ true → is_free x ≡ false
-region_busy x e = ap is_kind_free (is_Region x.kind e)
+region_busy x e = ap (is_kind kind.Free) (is_Region x.kind e)
 
 -- What a run that comes into a region makes of a heap, be it that no page of the region is used before.
 module _ (heap : Heap) (runs : AreRunsSound heap) (n page r : ℕ) (known : Contains heap.regions r) (some : 0 < n) (from : 256 * r ≤ page)
@@ -74,7 +75,8 @@ placed_at heap n page r s sound some known place e =
       given = subst (λ p. IsGiven heap n (in_region heap n p)) e (given_region heap n r s sound some (All-contains (IsRegion heap) heap.regions r sound.regions known) are);
     }
 
-placed_by : (heap : Heap) (n page : ℕ) → IsSound heap → 0 < n → (o : Option RegionRow) → IfSome o (IsRegionWithRoom heap n) → place_in_region n o ≡ Some page → IsPlaced heap n page
+placed_by : (heap : Heap) (n page : ℕ) → IsSound heap → 0 < n → (o : Option RegionRow) → IfSome o (IsRegionWithRoom heap n)
+    → option_and_then (λ (row : RegionRow). option_map (λ start. 256 * row.first + start) (best row.used n)) o ≡ Some page → IsPlaced heap n page
 placed_by heap n page sound some o is e = grind (arith, nat_tests, none-some, placed_at)
 
 placed_in : (heap : Heap) (n page : ℕ) → IsSound heap → 0 < n → region_place (region_rows heap) n ≡ Some page → IsPlaced heap n page

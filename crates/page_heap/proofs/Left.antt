@@ -3,7 +3,7 @@ use Rattle.std.proofs.Common.{◌≡◌, ℕ, ◌+◌, ◌-◌, ◌*◌, ◌/◌
 use Rattle.std.proofs.Common.{Contains, refl, sym, ap, subst, ◌∙◌, inl, inr, arith}
 use Rattle.page_heap.proofs.Common.{list_all, cases_Bool, cases_lt, cases_eq, false_from_ne_true, not_from_false, and_left, and_right}
 use Rattle.page_heap.proofs.Common.{length-map, length-drop, get_or-drop, Run, RowKind, Heap, Hugepage, hugepage, reaches, spans}
-use Rattle.page_heap.proofs.Common.{is_free, is_kind_free, is_kind_region, is_filler, hugepages_for, left_by, given_back}
+use Rattle.page_heap.proofs.Common.{is_free, is_kind, is_filler, hugepages_for, left_by, given_back}
 use Rattle.page_heap.proofs.Common.{IsHugepageOf, IsInside, IsSound, given_back_sound, given_is_left, all_used, reaches_parts, reaches_from, spans_parts}
 use Rattle.page_heap.proofs.Common.{spans_from, live_inside, prefix_long, at, map-place, here, IsSpan, is_run, shares, Cache, with_huge, with_backed_run}
 use Rattle.page_heap.proofs.Common.{Inside, measures, cache_of, regions_of, IsInOneHugepage, IsInHugepages, remeasured, with_freed, nat_tests}
@@ -94,8 +94,8 @@ module _ (old : Inside) (heap : Heap) (is : IsHeap old heap) (run : Run) (live :
     | inr e ↦ grind (arith, nat_tests, last_kind)
   ]
 
-  no_region : (h : ℕ) → reaches h run ≡ true → is_kind_region (hugepage heap h).kind ≡ false
-  no_region h e = let near = reached h e in other_kind h is_kind_region refl refl near.0 near.1
+  no_region : (h : ℕ) → reaches h run ≡ true → is_kind kind.Region (hugepage heap h).kind ≡ false
+  no_region h e = let near = reached h e in other_kind h (is_kind kind.Region) refl refl near.0 near.1
 
   same : given_back heap run ≡ left heap run
   same = given_is_left heap run sound live (all_used heap run sound live no_region)
@@ -127,7 +127,7 @@ module _ (old : Inside) (heap : Heap) (is : IsHeap old heap) (run : Run) (live :
     at_last true e own_flag = ap (λ t. cond t u (cond (spans (last - start) last start) false (p (hugepage heap last)))) (one_is last last refl) ∙ own_flag refl
     at_last false e own_flag =
         let out = false_from_ne_true (spans (last - start) last start) (λ t. let parts = spans_parts (last - start) last start t in absurd (omega (arith, parts.1))) in
-        ap (λ t. cond t false (p (hugepage heap last))) out ∙ busy (hugepage heap last) (other_kind last is_kind_free refl refl at'.first (omega arith)) ∙ sym (busy left_last e)
+        ap (λ t. cond t false (p (hugepage heap last))) out ∙ busy (hugepage heap last) (other_kind last (is_kind kind.Free) refl refl at'.first (omega arith)) ∙ sym (busy left_last e)
 
   freed_cache : with_freed (with_backed_run (cache_of heap) start (last - start)) last (hugepage (left heap run) last) ≡ cache_of (left heap run)
   freed_cache =
@@ -168,7 +168,7 @@ module _ (old : Inside) (heap : Heap) (is : IsHeap old heap) (run : Run) (live :
       (get_or-drop (start - 1) row k false
       ∙ ap (λ i. get_or row i false) (omega (arith, at'.from))
       ∙ map-place is_taken heap.hugepages (start + k) false (omega (arith, at'.from)) (omega (arith, at'.to))
-      ∙ not_from_false _ (ap is_kind_free (before_last (start + k) (omega arith) (omega arith))))))
+      ∙ not_from_false _ (ap (is_kind kind.Free) (before_last (start + k) (omega arith) (omega arith))))))
 
   pub leaving : IsLeaving old heap run start many last
   leaving =
@@ -186,7 +186,7 @@ module _ (old : Inside) (heap : Heap) (is : IsHeap old heap) (run : Run) (live :
         };
         tail_span = grind (arith, in_table);
         whole_out = out;
-        last_out = grind (arith, holds_there heap last last_own.from, other_kind last is_kind_free refl refl at'.first);
+        last_out = grind (arith, holds_there heap last last_own.from, other_kind last (is_kind kind.Free) refl refl at'.first);
         counted = run_counted old heap is run live;
         sound = given_back_sound heap run sound live;
         makes = left_made old heap is run live _ _ _

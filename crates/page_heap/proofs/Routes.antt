@@ -1,6 +1,6 @@
 -- The route that placed a live run, by what its first hugepage serves.
 use Rattle.std.proofs.Common.{◌≡◌, ℕ, ◌*◌, ◌+◌, ◌/◌, ◌<◌, ◌≤◌, ◌⊎◌, false, length, Contains, arith}
-use Rattle.page_heap.proofs.Common.{Run, Heap, hugepage, is_kind_region, IsInside, IsSound}
+use Rattle.page_heap.proofs.Common.{Run, Heap, hugepage, is_kind, IsInside, IsSound}
 use Rattle.page_heap.proofs.Common.{live_inside, Inside, IsInOneHugepage, IsInHugepages, IsInRegion, IsRouted, nat_tests}
 use Rattle.tc_units.specs.declared.rows.RowKind.TheVariants as kind
 use Rattle.page_heap.proofs.Results.{IsHeap, as_many}
@@ -39,5 +39,5 @@ module _ (t : Inside) (heap : Heap) (is : IsHeap t heap) (run : Run) (live : Con
   pub route_region : (hugepage heap h).kind ≡ kind.Region → IsInRegion heap run
   route_region e = grind (arith, nat_tests, routed, whole_kind)
 
-  pub route_others : is_kind_region (hugepage heap h).kind ≡ false → IsInOneHugepage heap run ⊎ IsInHugepages heap run
+  pub route_others : is_kind kind.Region (hugepage heap h).kind ≡ false → IsInOneHugepage heap run ⊎ IsInHugepages heap run
   route_others e = grind (arith, nat_tests)

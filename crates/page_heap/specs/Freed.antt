@@ -11,4 +11,5 @@ pub record AreFreed (old new : Cache) (heap : Heap) (first many : ℕ) : Type 0 
   pub size : length new.taken ≡ length old.taken
   pub unready_size : length new.unready ≡ length old.unready
   pub taken : (h : ℕ) → 0 < h → h ≤ length old.taken → at_number true new.taken h ≡ (if spans many h first then false else at_number true old.taken h)
-  pub unready : (h : ℕ) → 0 < h → h ≤ length old.unready → at_number true new.unready h ≡ (if spans many h first then not (list_all (λ b. b) (hugepage heap h).backed) else at_number true old.unready h)
+  pub unready : (h : ℕ) → 0 < h → h ≤ length old.unready
+      → at_number true new.unready h ≡ (if spans many h first then not (list_all (λ b. b) (hugepage heap h).backed) else at_number true old.unready h)

@@ -4,7 +4,8 @@ use Rattle.std.specs.List.{list_all}
 use Rattle.tc_units.specs.Units.{huge_pages}
 use Rattle.tc_units.specs.declared.spans.Run.{Run}
 use Rattle.tc_units.specs.declared.rows.RowView.{RowView}
-use Rattle.heap_rules.specs.Heap.{Heap, Hugepage, hugepage, is_free, is_kind_free, is_kind_filler}
+use Rattle.tc_units.specs.declared.rows.RowKind.TheVariants as kind
+use Rattle.heap_rules.specs.Heap.{Heap, Hugepage, hugepage, is_free, is_kind}
 use Rattle.heap_rules.specs.New.{Placed}
 use Rattle.heap_rules.specs.Sound.{IsSound}
 use Rattle.huge_table.specs.Table.{Table}
@@ -24,7 +25,16 @@ pub record IsTold (table : Table) (heap : Heap) : Type 0 where
 
 -- what the filler is told of a hugepage, by how it is shown
 abbrev pub measures_by : RowView → Option Measures
-measures_by row = if is_kind_filler row.kind then Some (record { tier = (if row.backed == huge_pages then (if row.donated then 1 else 0) else 2); longest = row.longest; allocs = row.allocs; used = row.used; spare = row.backed - row.used; donated = row.donated }) else None
+measures_by row =
+    if is_kind kind.Filler row.kind then
+    Some (record {
+      tier = (if row.backed == huge_pages then (if row.donated then 1 else 0) else 2);
+      longest = row.longest;
+      allocs = row.allocs;
+      used = row.used;
+      spare = row.backed - row.used;
+      donated = row.donated;
+    }) else None
 
 -- the measures, where those of hugepage h are what they are of a heap
 abbrev pub remeasured : List (Option Measures) → Heap → ℕ → List (Option Measures)
@@ -32,7 +42,7 @@ remeasured all heap h = slice_set all (h - 1) (measured heap.runs h (hugepage he
 
 -- the free hugepages with hugepage h, where it is free, by how it is shown and as it is
 abbrev pub with_shown : Cache → ℕ → RowView → Cache
-with_shown cache h row = if is_kind_free row.kind then with_huge cache h (row.backed == huge_pages) else cache
+with_shown cache h row = if is_kind kind.Free row.kind then with_huge cache h (row.backed == huge_pages) else cache
 
 abbrev pub with_freed : Cache → ℕ → Hugepage → Cache
 with_freed cache h x = if is_free x then with_huge cache h (list_all (λ b. b) x.backed) else cache

@@ -3,8 +3,6 @@ ghost use Rattle.std.specs.Prelude.{◌≡◌, ◌≢◌, ℕ, ◌*◌, ◌<◌,
 ghost use Rattle.tc_units.specs.Units.{huge_pages};
 ghost use Rattle.tc_units.specs.declared.spans.Run.{Run};
 ghost use Rattle.heap_rules.specs.Heap.{opened, used_pages};
-ghost use Rattle.heap_rules.specs.Choice.{region_rows};
-ghost use Rattle.heap_rules.specs.RegionRows.{region_place};
 ghost use Rattle.heap_rules.specs.New.{new_small, by_regions, new_unsettled, new, none_fits};
 ghost use Rattle.heap_rules.specs.Free.{given_back, freed};
 ghost use Rattle.heap_rules.specs.Laws.{IsGiven, IsRid, BacksNone};
@@ -81,8 +79,7 @@ impl PageHeap {
     fn new_by_regions(&mut self, n: u32) -> Option<Run>
         requires large { huge_pages ≤ n }
         requires fits { n ≤ huge_pages * self.old.config.region }
-        ensures new { by_regions self.old n (region_place (region_rows self.old) n)
-            ≡ answered self.new result }
+        ensures new { by_regions self.old n ≡ answered self.new result }
         ensures same { IfNone result (self.new ≡ self.old) }
     {
         if let Some(run) = self.new_in_region(n) {

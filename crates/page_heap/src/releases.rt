@@ -1,7 +1,8 @@
 //! How many free hugepages stay backed, and who gives pages up.
 ghost use Rattle.std.specs.Prelude.{◌≡◌, ℕ, ◌-◌, ◌*◌, ◌<◌, ◌≤◌, ◌↔◌, ◌&&◌, ◌==◌, true, false, IfSome, IfNone};
 ghost use Rattle.tc_units.specs.Units.{huge_pages};
-ghost use Rattle.heap_rules.specs.Heap.{is_kind_region};
+ghost use Rattle.tc_units.specs.declared.rows.RowKind.TheVariants as kind;
+ghost use Rattle.heap_rules.specs.Heap.{is_kind};
 ghost use Rattle.heap_rules.specs.Settle.{settled};
 ghost use Rattle.heap_rules.specs.Release.{is_idle, release, free_given, idle_given, spare_given, givable_pages};
 ghost use Rattle.heap_rules.specs.Laws.{IsReleased, BacksNone};
@@ -17,7 +18,7 @@ use tc_units::{HUGE_PAGES, Huge, RowKind, RowView};
 
 /// Whether a row shows a region's hugepage that is backed and has no used page.
 fn shows_idle(row: RowView) -> bool
-    ensures { result ≡ (is_kind_region row.kind && row.used == 0 && row.backed == huge_pages) }
+    ensures { result ≡ (is_kind kind.Region row.kind && row.used == 0 && row.backed == huge_pages) }
 {
     match row.kind {
         RowKind::Region => row.used == 0 && row.backed == HUGE_PAGES,

@@ -28,7 +28,7 @@ use Rattle.part_lock.specs.declared.view.Work.{Work}
 use Rattle.part_lock.specs.declared.view.View.{View}
 use Rattle.part_lock.specs.declared.view.View.TheVariants.{Leads, Works, Spent}
 use Rattle.part_lock.specs.Closes.{IsClosed}
-use Rattle.part_lock.specs.Lock.{Once, rank, Account, part_left, local_left, at_part, of_thread, entry_of, entries_at, thread_of}
+use Rattle.part_lock.specs.Lock.{part_word, Once, rank, Account, part_left, local_left, at_part, of_thread, entry_of, entries_at, thread_of}
 use Rattle.part_lock.specs.Lock.{Names, Out, one, starved, lost, sum_of, drawn_in, weigh, total, Ties, Kept}
 use Rattle.part_lock.proofs.Later.{word}
 use Rattle.part_lock.proofs.Halting.{few_deeds, tickets_differ}
@@ -104,8 +104,8 @@ module _ {X P L : Type 0} {mach : X → Rules P L} {key : Key X} {words : List �
   no_out i j o = grind (arith, no_one)
 
   -- so each part is at home
-  home : (i : ℕ) → i < length homes → word words (i + 2) ≡ 0
-  home i less = dite (ℕ_discrete (word words (i + 2)) 0) (λ z. z) (λ full. absurd (no_out i (a.holder i) (r.away i less full)))
+  home : (i : ℕ) → i < length homes → word words (part_word i) ≡ 0
+  home i less = dite (ℕ_discrete (word words (part_word i)) 0) (λ z. z) (λ full. absurd (no_out i (a.holder i) (r.away i less full)))
 
   keeps_all : (t j : ℕ) (v : View X P L) → get_elem? views j ≡ some v → Names t v → (w : Work X P L) × Has m.kept w × (w.thread ≡ t)
   keeps_all t j (Leads q) e n = let same : q ≡ m = cc (some-injective (Leads q) (Leads m) (sym (rw (r.each j (Leads q) e).0 at e) ∙ at)) in rw (← same) n

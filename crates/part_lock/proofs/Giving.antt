@@ -26,7 +26,7 @@ use Rattle.part_lock.specs.declared.view.Stage.TheVariants.{Taken, Drawn}
 use Rattle.part_lock.specs.declared.view.Work.{Work}
 use Rattle.part_lock.specs.declared.view.View.{View}
 use Rattle.part_lock.specs.declared.view.View.TheVariants.{Works}
-use Rattle.part_lock.specs.Lock.{lies, flag, part_no, rank, at_part, of_thread, part_left, local_left, Account, HasOut, Names, entry_of, entries_at, Saw, Caused, Holding, StageFits}
+use Rattle.part_lock.specs.Lock.{part_word, lies, flag, part_no, rank, at_part, of_thread, part_left, local_left, Account, HasOut, Names, entry_of, entries_at, Saw, Caused, Holding, StageFits}
 use Rattle.part_lock.specs.Lock.{IsOut, drawn_in, Ties, Kept, visit, deed, left, entered, Gives, Returns, Fails}
 use Rattle.part_lock.proofs.Facts.{put, put_here, put_else, flag_rises, part_here, part_same, thread_here, thread_same}
 use Rattle.part_lock.proofs.Later.{held_same, lies_held, Later, written, saw_stays, caused_stays, each_moves, view_stays, sums, leader_stays, turned_ties}
@@ -37,7 +37,7 @@ module _ {X P L : Type 0} (mach : X → Rules P L) (key : Key X) (n id : ℕ) (w
       → Ties mach key s.words s.homes s.views a threads → get_elem? s.views id ≡ some (Works w) → x.entries.items ≡ h.found → x.part ≡ h.part
       → Holding mach key.machine key.events s.words (length s.homes) a threads id w.thread h → ((k : ℕ) → IsOut k w.stage → h.slot ≡ k)
       → drawn_in w.stage + flag (w.cause - 1) ≤ flag (c - 1) → w.cause ≤ c → Caused {P = P} {L = L} mach key.machine key.events s.words (length s.homes) a threads c b
-      → Ties mach key (set s.words (h.slot + 2) 0) (set s.homes h.slot (some x)) (set s.views id (Works (left h c b w))) a threads
+      → Ties mach key (set s.words (part_word h.slot) 0) (set s.homes h.slot (some x)) (set s.views id (Works (left h c b w))) a threads
   back_moves s a threads c b r at same_entries same_part has out loss rise caused =
       let i : ℕ = h.slot in let u : Work X P L = left h c b w in
       let mine = r.each id (Works w) at in let (there, by, worded, found, part) = has in
@@ -47,8 +47,8 @@ module _ {X P L : Type 0} (mach : X → Rules P L) (key : Key X) (n id : ℕ) (w
       (at_part i a.deeds, [], sym (append-nil (at_part i a.deeds)), sym (ap length found ∙ length-map (at_part i a.deeds) entry_of), part, omega arith) in
       let saw_all : (v : Visit P) → Has u.visits v → Saw mach key.machine key.events a.deeds v =
       λ v g. ⊎_elim (saw v) (λ (new : visit h 0 ≡ v). subst (Saw mach key.machine key.events a.deeds) new seen) (has_end w.visits (visit h 0) v g) in
-      turned_ties mach key s.words (set s.words (i + 2) 0) s.homes (set s.homes i (some x)) s.views a threads id u a.holder a.owner w refl at r record {
-        long = length-set s.words (i + 2) 0;
+      turned_ties mach key s.words (set s.words (part_word i) 0) s.homes (set s.homes i (some x)) s.views a threads id u a.holder a.owner w refl at r record {
+        long = length-set s.words (part_word i) 0;
         wide = length-set s.homes i (some x);
         halt = omega arith;
         next = omega arith;
@@ -67,23 +67,26 @@ module _ {X P L : Type 0} (mach : X → Rules P L) (key : Key X) (n id : ℕ) (w
       }
 
   pub returns_part : w.stage ≡ Taken h → x.entries.items ≡ h.found → x.part ≡ h.part
-      → Allows (Kept mach key) n id (Works w, (h.slot, x) ∷ []) (h.slot + 2) (λ _. 0) (λ _ m. Returns (step n (h.slot + 2) 0 0 none) (Works w, (h.slot, x) ∷ []) 0 m)
+      → Allows (Kept mach key) n id (Works w, (h.slot, x) ∷ []) (part_word h.slot) (λ _. 0) (λ _ m. Returns (step n (part_word h.slot) 0 0 none) (Works w, (h.slot, x) ∷ []) 0 m)
   returns_part taken same_entries same_part s kept wide at _ =
       let r = kept.3 in let a : Account P L = kept.1 in let threads : List ℕ = kept.2 in
       let mine = r.each id (Works w) at in let has = rw taken at mine.2 in let none_drawn : drawn_in w.stage ≡ 0 = ap drawn_in taken in
-      grind (arith, back_moves s a threads w.cause w.noted r)
+      let stays = back_moves s a threads w.cause w.noted r at same_entries same_part has (λ k o. rw taken at o) (omega arith) (omega arith) mine.0.6 in
+      (Works (left h w.cause w.noted w), gives, tt, (kept.0, a, threads, stays), rw taken refl)
 
   pub fails_part : ((w.stage ≡ Taken h) ⊎ ((t : ℕ) × (w.stage ≡ Drawn h t))) → w.cause ≡ 0 → x.entries.items ≡ h.found → x.part ≡ h.part
-      → Allows (Kept mach key) n id (Works w, (h.slot, x) ∷ []) (h.slot + 2) (λ _. 0) (λ _ m. Fails (step n (h.slot + 2) 0 0 none) (Works w, (h.slot, x) ∷ []) 0 m)
+      → Allows (Kept mach key) n id (Works w, (h.slot, x) ∷ []) (part_word h.slot) (λ _. 0) (λ _ m. Fails (step n (part_word h.slot) 0 0 none) (Works w, (h.slot, x) ∷ []) 0 m)
   fails_part held_so fresh_is same_entries same_part s kept wide at _ =
       let r = kept.3 in let a : Account P L = kept.1 in let threads : List ℕ = kept.2 in
-      grind (arith, r.each id (Works w), back_moves s a threads 2 false r)
+      let stays : Ties mach key (set s.words (part_word h.slot) 0) (set s.homes h.slot (some x)) (set s.views id (Works (left h 2 false w))) a threads =
+      grind (arith, r.each id (Works w), back_moves s a threads 2 false r) in
+      (Works (left h 2 false w), gives, tt, (kept.0, a, threads, stays), grind arith)
 
   -- the part comes home with one more entry
   pub gives_part : (t : ℕ) → w.stage ≡ Drawn h t → x.entries.items ≡ h.found ++ record { ticket = t; thread = record { 0 = w.thread } } ∷ []
       → x.part ≡ ((mach w.machine).after h.part w.local).0
       → (mach w.machine).want w.local ≡ Some (part_no h.slot) → (mach w.machine).waits h.part w.local ≡ false → (mach w.machine).yields h.part w.local ≡ true
-      → Allows (Kept mach key) n id (Works w, (h.slot, x) ∷ []) (h.slot + 2) (λ _. 0) (λ _ m. Gives mach (step n (h.slot + 2) 0 0 none) (Works w, (h.slot, x) ∷ []) 0 m)
+      → Allows (Kept mach key) n id (Works w, (h.slot, x) ∷ []) (part_word h.slot) (λ _. 0) (λ _ m. Gives mach (step n (part_word h.slot) 0 0 none) (Works w, (h.slot, x) ∷ []) 0 m)
   gives_part t drawn longer acted wish no_wait yield s kept wide at _ =
       let r = kept.3 in let a : Account P L = kept.1 in let threads : List ℕ = kept.2 in
       let i : ℕ = h.slot in let l' : L = ((mach w.machine).after h.part w.local).1 in let m : Rules P L = mach key.machine in
@@ -91,7 +94,7 @@ module _ {X P L : Type 0} (mach : X → Rules P L) (key : Key X) (n id : ℕ) (w
       let has : StageFits mach key.machine key.events s.words (length s.homes) a threads id w (Drawn h t) = rw drawn at mine.2 in
       let (holds, owner_is, drew, under, above_part, above_seat, fresh) = has in let (there, by, worded, found, part) = holds in
       let d : Act P L = deed w h t in let e : Entry = record { ticket = t; thread = record { 0 = w.thread } } in
-      let words' : List ℕ = set s.words (i + 2) 0 in let u : Work X P L = entered h t l' w in let last : ℕ = length a.deeds in
+      let words' : List ℕ = set s.words (part_word i) 0 in let u : Work X P L = entered h t l' w in let last : ℕ = length a.deeds in
       let a' : Account P L = record { deeds = a.deeds ++ d ∷ []; holder = a.holder; seat = a.seat; owner = put a.owner t (lies last) } in
       let now = written s.words i 0 in let wide' = length-set s.homes i (some x) in
       let one_drawn : drawn_in w.stage ≡ 1 = ap drawn_in drawn in let more = length-append a.deeds (d ∷ []) in let v = sums s.views id w u at in
@@ -122,7 +125,7 @@ module _ {X P L : Type 0} (mach : X → Rules P L) (key : Key X) (n id : ℕ) (w
           a',
           threads,
           record {
-            sized = omega (arith, length-set s.words (i + 2) 0, r.sized);
+            sized = omega (arith, length-set s.words (part_word i) 0, r.sized);
             counted = wide' ∙ r.counted;
             at_home = λ k less zero. dite (ℕ_discrete k i)
                 (λ f. (x, rw f (set_here s.homes i (some x) there), rw f (longer ∙ (ap (λ (l : List Entry). l ++ e ∷ []) found ∙ sym entries)), rw f new_part))

@@ -1,5 +1,5 @@
 -- The halt word is loaded or raised; and what comes next in a run of the acts so far.
-use Rattle.std.proofs.Common.{true, ◌≡◌, ◌⊎◌, ℕ, ◌+◌, ◌-◌, ◌<◌, ◌≤◌, max, List, [], length, set, refl, sym, ap, ◌∙◌, inl, arith, length-set, Some}
+use Rattle.std.proofs.Common.{true, ◌≡◌, ◌⊎◌, ℕ, ◌-◌, ◌<◌, ◌≤◌, max, List, [], length, set, refl, sym, ap, ◌∙◌, inl, arith, length-set, Some}
 use Rattle.std.proofs.lemmas.List.{get_or-set_other, get_or-set_same, length-map}
 use Rattle.std.proofs.lemmas.Option.{slice_get_within}
 use Rattle.std.proofs.Math.Nat.{le-max_left, le-max_right, max-eq_left, max-eq_right}
@@ -20,7 +20,7 @@ use Rattle.part_lock.specs.declared.view.Stage.TheVariants.{Idle}
 use Rattle.part_lock.specs.declared.view.Work.{Work}
 use Rattle.part_lock.specs.declared.view.View.{View}
 use Rattle.part_lock.specs.declared.view.View.TheVariants.{Works}
-use Rattle.part_lock.specs.Lock.{part_no, rank, at_part, of_thread, part_left, local_left, Account, HasOut, starved, total, Ties, Kept, saw, Sees, Sets}
+use Rattle.part_lock.specs.Lock.{ticket_word, part_word, part_no, rank, at_part, of_thread, part_left, local_left, Account, HasOut, starved, total, Ties, Kept, saw, Sees, Sets}
 use Rattle.part_lock.proofs.Facts.{flag_rises, flag_some, set_at, lies_same, total_at}
 use Rattle.part_lock.proofs.Later.{word, view_stays, sums, turned_ties}
 
@@ -29,14 +29,14 @@ module _ {X P L : Type 0} where
   halt_moves : (mach : X → Rules P L) (key : Key X) (words : List ℕ) (homes : List (Option (Stall P))) (views : List (View X P L))
       → (a : Account P L) (threads : List ℕ) (id n c : ℕ) (w : Work X P L)
       → Ties mach key words homes views a threads → get_elem? views id ≡ some (Works w) → w.stage ≡ Idle
-      → word words 0 ≤ n → n ≤ 2 → (n ≡ 1 → key.events < word words 1)
-      → (n ≡ 2 → (0 < total starved views) ⊎ (c ≡ 2)) → w.cause ≤ c → c ≤ n → (c ≡ 1 → key.events < word words 1)
+      → word words 0 ≤ n → n ≤ 2 → (n ≡ 1 → key.events < word words ticket_word)
+      → (n ≡ 2 → (0 < total starved views) ⊎ (c ≡ 2)) → w.cause ≤ c → c ≤ n → (c ≡ 1 → key.events < word words ticket_word)
       → Ties mach key (set words 0 n) homes (set views id (Works (saw c w))) a threads
   halt_moves mach key words homes views a threads id n c w r at idle grows small one_is two_is rise under limit =
       let size = r.sized in let u : Work X P L = saw c w in
       let zeroth : word (set words 0 n) 0 ≡ n = get_or-set_same words 0 n 0 (omega arith) in
-      let first : word (set words 0 n) 1 ≡ word words 1 = get_or-set_other words 0 1 n 0 (λ e. omega arith) in
-      let other : (k : ℕ) → word (set words 0 n) (k + 2) ≡ word words (k + 2) = λ k. get_or-set_other words 0 (k + 2) n 0 (λ e. omega arith) in
+      let first : word (set words 0 n) ticket_word ≡ word words ticket_word = get_or-set_other words 0 ticket_word n 0 (λ e. omega arith) in
+      let other : (k : ℕ) → word (set words 0 n) (part_word k) ≡ word words (part_word k) = λ k. get_or-set_other words 0 (part_word k) n 0 (λ e. omega arith) in
       let mine = r.each id (Works w) at in let (machine, events, named, local, made, saw, _) = mine.0 in
       let b = flag_rises w.cause c rise in let b' = flag_rises (w.cause - 1) (c - 1) (omega arith) in
       let t = sums views id w u at in let at_least = total_at starved (set views id (Works u)) id (Works u) (set_at views id (Works w) (Works u) at) in

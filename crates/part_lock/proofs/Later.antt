@@ -21,7 +21,7 @@ use Rattle.part_lock.specs.declared.view.Stage.TheVariants.{Idle, Taken, Drawn}
 use Rattle.part_lock.specs.declared.view.Work.{Work}
 use Rattle.part_lock.specs.declared.view.View.{View}
 use Rattle.part_lock.specs.declared.view.View.TheVariants.{Leads, Works, Spent}
-use Rattle.part_lock.specs.Lock.{Place, lies, held, entries_at, at_part, of_thread, part_left, local_left, Account, entry_of, Saw, Caused, Knows, Holding}
+use Rattle.part_lock.specs.Lock.{ticket_word, part_word, Place, lies, held, entries_at, at_part, of_thread, part_left, local_left, Account, entry_of, Saw, Caused, Knows, Holding}
 use Rattle.part_lock.specs.Lock.{StageFits, Fits, Mine, Out, Names, one, ended, lost, starved, total, LeadsAt, Halting, Ties, Kept}
 use Rattle.part_lock.proofs.Facts.{set_at, few_threads, total_set, ended_le}
 
@@ -41,15 +41,15 @@ module _ {X P L : Type 0} (mach : X → Rules P L) (x : X) (events : ℕ) (words
   -- the words and the deeds only grow
   pub record Later : Type 0 where
     pub halt : word words 0 ≤ word words' 0
-    pub next : word words 1 ≤ word words' 1
+    pub next : word words ticket_word ≤ word words' ticket_word
     pub grew : (i : ℕ) → (more : List (Act P L)) × (at_part i a'.deeds ≡ at_part i a.deeds ++ more)
     pub listed : (t : ℕ) → Has threads t → Has threads' t
 
   -- what the seat j knows stays as it is
   pub record Same (j : ℕ) : Type 0 where
-    pub holds : (k : ℕ) → k < slots → a.holder k ≡ j → word words (k + 2) ≢ 0
-        → (a'.holder k ≡ j) × (word words' (k + 2) ≡ word words (k + 2)) × (at_part k a'.deeds ≡ at_part k a.deeds)
-    pub tickets : (t : ℕ) → a.owner t ≡ held j → t < word words 1 → a'.owner t ≡ held j
+    pub holds : (k : ℕ) → k < slots → a.holder k ≡ j → word words (part_word k) ≢ 0
+        → (a'.holder k ≡ j) × (word words' (part_word k) ≡ word words (part_word k)) × (at_part k a'.deeds ≡ at_part k a.deeds)
+    pub tickets : (t : ℕ) → a.owner t ≡ held j → t < word words ticket_word → a'.owner t ≡ held j
     pub of_seat : (t : ℕ) → Has threads t → a.seat t ≡ j → (a'.seat t ≡ j) × (of_thread t a'.deeds ≡ of_thread t a.deeds)
     pub lead : j ≡ 0 → threads ≡ threads'
 
@@ -133,7 +133,7 @@ module _ {X P L : Type 0} where
 
   -- the ticket word doesn't wrap
   pub narrow : {mach : X → Rules P L} {key : Key X} {words : List ℕ} {homes : List (Option (Stall P))} {views : List (View X P L)} {a : Account P L} {threads : List ℕ}
-      → Ties mach key words homes views a threads → word words 1 ≤ key.events + 256
+      → Ties mach key words homes views a threads → word words ticket_word ≤ key.events + 256
   narrow {views = views} {threads = threads} t = let le = ended_le views in let l = t.leader in let sum = l.2 in let few = few_threads threads 256 t.once t.small in omega arith
 
   -- a word is written as it was, and nothing else happens
@@ -147,10 +147,10 @@ module _ {X P L : Type 0} where
 
 -- the word of the slot i is written
 pub record Written (ws : List ℕ) (i n : ℕ) : Type 0 where
-  pub zeroth : word (set ws (i + 2) n) 0 ≡ word ws 0
-  pub first : word (set ws (i + 2) n) 1 ≡ word ws 1
-  pub other : (k : ℕ) → k ≢ i → word (set ws (i + 2) n) (k + 2) ≡ word ws (k + 2)
-  pub here : i + 2 < length ws → word (set ws (i + 2) n) (i + 2) ≡ n
+  pub zeroth : word (set ws (part_word i) n) 0 ≡ word ws 0
+  pub first : word (set ws (part_word i) n) ticket_word ≡ word ws ticket_word
+  pub other : (k : ℕ) → k ≢ i → word (set ws (part_word i) n) (part_word k) ≡ word ws (part_word k)
+  pub here : part_word i < length ws → word (set ws (part_word i) n) (part_word i) ≡ n
 
 pub written : (ws : List ℕ) (i n : ℕ) → Written ws i n
 written ws i n = grind (arith, get_or-set_other, get_or-set_same)
@@ -166,15 +166,15 @@ module _ {X P L : Type 0} (mach : X → Rules P L) (key : Key X) (words words' :
     pub long : length words' ≡ length words
     pub wide : length homes' ≡ length homes
     pub halt : word words 0 ≤ word words' 0
-    pub next : word words 1 ≤ word words' 1
-    pub home : (i : ℕ) → i < length homes → word words' (i + 2) ≡ 0
+    pub next : word words ticket_word ≤ word words' ticket_word
+    pub home : (i : ℕ) → i < length homes → word words' (part_word i) ≡ 0
         → (x : Stall P) × (get_elem? homes' i ≡ some (some x)) × (x.entries.items ≡ entries_at i a.deeds) × (part_left (mach key.machine) i (at_part i a.deeds) ≡ Some x.part)
-    pub away : (i : ℕ) → i < length homes → word words' (i + 2) ≢ 0 → Out (set views id (Works u)) (holder i) i
-    pub holds : (j k : ℕ) → j ≢ id → k < length homes → a.holder k ≡ j → word words (k + 2) ≢ 0 → (holder k ≡ j) × (word words' (k + 2) ≡ word words (k + 2))
-    pub owned : (t : ℕ) → t < word words 1 → owner t ≡ a.owner t
+    pub away : (i : ℕ) → i < length homes → word words' (part_word i) ≢ 0 → Out (set views id (Works u)) (holder i) i
+    pub holds : (j k : ℕ) → j ≢ id → k < length homes → a.holder k ≡ j → word words (part_word k) ≢ 0 → (holder k ≡ j) × (word words' (part_word k) ≡ word words (part_word k))
+    pub owned : (t : ℕ) → t < word words ticket_word → owner t ≡ a.owner t
     pub mine : Fits mach key.machine key.events words' (length homes) record { deeds = a.deeds; holder = holder; seat = a.seat; owner = owner } threads id (Works u)
-    pub bounded : word words' 1 ≤ key.events + total ended (set views id (Works u))
-    pub complete : (k : ℕ) → k ≤ word words' 1 → k ≤ key.events → k ≤ length a.deeds + total lost (set views id (Works u))
+    pub bounded : word words' ticket_word ≤ key.events + total ended (set views id (Works u))
+    pub complete : (k : ℕ) → k ≤ word words' ticket_word → k ≤ key.events → k ≤ length a.deeds + total lost (set views id (Works u))
     pub halting : Halting words' key.events (set views id (Works u))
 
   -- such a step keeps the rule

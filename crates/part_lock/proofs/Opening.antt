@@ -1,5 +1,5 @@
 -- The rule holds at the start.
-use Rattle.std.proofs.Common.{◌≡◌, ℕ, zero, suc, ◌+◌, ◌<◌, ◌≤◌, List, map, replicate, All, []}
+use Rattle.std.proofs.Common.{◌≡◌, ℕ, zero, suc, ◌<◌, ◌≤◌, List, map, replicate, All, []}
 use Rattle.std.proofs.Common.{◌∷◌, length, get_or, refl, sym, ap, ◌∙◌, subst, arith, Some, option_map}
 use Rattle.std.specs.List.{slice_get}
 use Rattle.std.proofs.lemmas.List.{length-replicate, length-map}
@@ -14,7 +14,7 @@ use Rattle.tc_model.proofs.Members.{has_none}
 use Rattle.part_lock.specs.declared.view.Key.{Key}
 use Rattle.part_lock.specs.declared.view.Stall.{Stall}
 use Rattle.part_lock.specs.declared.view.View.{View}
-use Rattle.part_lock.specs.Lock.{nowhere, Account, Fits, Kept, main_view, first_lead}
+use Rattle.part_lock.specs.Lock.{ticket_word, part_word, nowhere, Account, Fits, Kept, main_view, first_lead}
 use Rattle.part_lock.proofs.Facts.{get_or_any, get_or-replicate_any}
 use Rattle.part_lock.proofs.Later.{word}
 
@@ -37,21 +37,21 @@ module _ {P : Type 0} where
 module _ {X P L : Type 0} where
   -- the rule holds at the start
   pub opens : (mach : X → Rules P L) (key : Key X) (ws : List ℕ) (xs : List (Stall P))
-      → key.events ≤ 40000000 → ws ≡ 0 ∷ 0 ∷ replicate (length xs) 0 → All (λ (x : Stall P). x.entries.items ≡ []) xs
+      → key.events ≤ 40000000 → ws ≡ replicate (part_word (length xs)) 0 → All (λ (x : Stall P). x.entries.items ≡ []) xs
       → map (λ (x : Stall P). x.part) xs ≡ (mach key.machine).parts → Kept {X = X} {P = P} {L = L} mach key (opening ws xs (main_view key))
   opens mach key ws xs few zeros bare begins =
-      let zero_at : (i : ℕ) → word ws i ≡ 0 = λ i. ap (λ (z : List ℕ). word z i) zeros ∙ all_zero (length xs) i in
+      let zero_at : (i : ℕ) → word ws i ≡ 0 = λ i. ap (λ (z : List ℕ). word z i) zeros ∙ get_or-replicate_any (part_word (length xs)) i in
       let long : length (map some xs) ≡ length xs = length-map xs some in
       let many : length xs ≡ length (mach key.machine).parts = sym (length-map xs (λ (x : Stall P). x.part)) ∙ ap length begins in
-      let z0 = zero_at 0 in let z1 = zero_at 1 in (
+      let z0 = zero_at 0 in let z1 = zero_at ticket_word in (
         few,
         bare_account,
         [],
         record {
-          sized = omega (arith, ap length zeros, length-replicate {A = ℕ} (length xs) 0);
+          sized = omega (arith, ap length zeros, length-replicate {A = ℕ} (part_word (length xs)) 0);
           counted = long ∙ many;
           at_home = λ i h z. let o = home xs i (omega arith) bare in (o.0, o.1, o.2, ap (λ (l : List P). slice_get l i) (sym begins) ∙ o.3);
-          away = λ i h z. absurd (z (zero_at (i + 2)));
+          away = λ i h z. absurd (z (zero_at (part_word i)));
           each = λ j v e. first j v e;
           chained = record { parts = λ i. tt; locals = λ t. tt; go = tt };
           rises = λ i. tt;
@@ -67,11 +67,6 @@ module _ {X P L : Type 0} where
         },
       )
     where
-      all_zero : (n i : ℕ) → word (0 ∷ 0 ∷ replicate n 0) i ≡ 0
-      all_zero n zero = refl
-      all_zero n (suc zero) = refl
-      all_zero n (suc (suc i)) = get_or-replicate_any n i
-
       first : (j : ℕ) (v : View X P L) → get_elem? (main_view {P = P} {L = L} key ∷ []) j ≡ some v → Fits mach key.machine key.events ws (length (map some xs)) bare_account [] j v
       first zero v e = subst (λ (z : View X P L). Fits mach key.machine key.events ws (length (map some xs)) bare_account [] 0 z)
           (some-injective (main_view key) v e) (refl, refl, refl, refl, (λ w h. absurd (has_none w h)), tt)

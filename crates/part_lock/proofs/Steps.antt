@@ -16,7 +16,7 @@ use Rattle.std.specs.List.{slice_get}
 use Rattle.part_lock.specs.declared.view.Lead.{Lead}
 use Rattle.tc_model.specs.declared.machine.PartNo.{PartNo}
 use Rattle.tc_model.specs.Run.{Rules}
-use Rattle.part_lock.specs.Lock.{fresh_work, newcomer, Mine, part_no, hold, at_view, at_stage, saw, full, left, entered, Finds, Sees, Draws}
+use Rattle.part_lock.specs.Lock.{ticket_word, fresh_work, newcomer, Mine, part_no, hold, at_view, at_stage, saw, full, left, entered, Finds, Sees, Draws}
 use Rattle.part_lock.specs.Turns.{HoldsOnly, noted_after, cause_of, IsReady, Judges, InTurn, InPlace, Acts, Tells, Ready, halt_number}
 
 slot_same : {P : Type 0} (i : ℕ) (x y : Stall P) (c : List (ℕ × Stall P)) → c ≡ (i, x) ∷ [] → c ≡ (i, y) ∷ [] → x ≡ y
@@ -34,13 +34,13 @@ module _ {X P L : Type 0} where
         → Judges mach key x'.part l (vec_len y.entries) (vec_capacity y.entries) Goes → InPlace mach key fits thread part l w x y me'
     placed x' y me me' t has next same same' j = grind (arith)
 
-    pub drawn_now : (n found : ℕ) (y : Stall P) (me me' : Mine X P L) → InPlace mach key fits thread part l w x y me → Draws (step n 1 1 0 none) me found me'
+    pub drawn_now : (n found : ℕ) (y : Stall P) (me me' : Mine X P L) → InPlace mach key fits thread part l w x y me → Draws (step n ticket_word 1 0 none) me found me'
         → (found < key.events → me' ≡ (Works (at_stage (Drawn (hold part x) found) w), (part, y) ∷ []))
         × (key.events ≤ found → me' ≡ (Works (full (at_stage (Taken (hold part x)) w)), (part, y) ∷ []))
     drawn_now n found y me me' p d = grind (arith)
 
     -- after the draw of a ticket that is used, the part is held, and its act goes
-    pub goes_on : (n found : ℕ) (y : Stall P) (me me' : Mine X P L) → InPlace mach key fits thread part l w x y me → Draws (step n 1 1 0 none) me found me' → found < key.events
+    pub goes_on : (n found : ℕ) (y : Stall P) (me me' : Mine X P L) → InPlace mach key fits thread part l w x y me → Draws (step n ticket_word 1 0 none) me found me' → found < key.events
         → (z : Stall P) × HoldsOnly part z me' × (vec_len z.entries < vec_capacity z.entries) × fits key.machine z.part l × ((mach key.machine).waits z.part l ≡ false)
     goes_on n found y me me' p d low =
         let (_, _, same, room, turn, no_wait, _) = p in let (_, _, _, _, fit, _) = turn in

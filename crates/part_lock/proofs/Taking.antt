@@ -1,5 +1,5 @@
 -- A seat takes the turn of a part.
-use Rattle.std.proofs.Common.{◌≡◌, ◌≢◌, ℕ, ◌+◌, ◌-◌, ◌<◌, ◌≤◌, eqb, List, [], ◌∷◌, length-append, length, set, refl, sym, ap, ◌∙◌, arith, length-set, Some}
+use Rattle.std.proofs.Common.{◌≡◌, ◌≢◌, ℕ, ◌+◌, ◌<◌, ◌≤◌, eqb, List, [], ◌∷◌, length-append, length, set, refl, sym, ap, ◌∙◌, arith, length-set, Some}
 use Rattle.std.proofs.lemmas.List.{length-map}
 use mathlib.Core.Option.{none}
 use mathlib.Core.Logic.{dite}
@@ -18,7 +18,7 @@ use Rattle.part_lock.specs.declared.view.Visit.{Visit}
 use Rattle.part_lock.specs.declared.view.Stage.TheVariants.{Idle, Taken}
 use Rattle.part_lock.specs.declared.view.Work.{Work}
 use Rattle.part_lock.specs.declared.view.View.TheVariants.{Works}
-use Rattle.part_lock.specs.Lock.{hold, at_part, of_thread, part_left, local_left, Account, entries_at, Saw, Mine, HasOut, drawn_in, Kept, at_stage, Finds, Takes}
+use Rattle.part_lock.specs.Lock.{part_word, slot_of, hold, at_part, of_thread, part_left, local_left, Account, entries_at, Saw, Mine, HasOut, drawn_in, Kept, at_stage, Finds, Takes}
 use Rattle.part_lock.proofs.Facts.{put, put_here, put_else, set_at}
 use Rattle.part_lock.proofs.Later.{word, written, Goes, view_stays, sums, turned_ties, stands_still}
 use Rattle.part_lock.proofs.Halting.{few_deeds, lawful_next}
@@ -44,14 +44,14 @@ module _ {X P L : Type 0} (mach : X → Rules P L) (fits : X → P → L → Typ
   )
 
   pub takes_part : (n id i : ℕ) (w : Work X P L) → w.stage ≡ Idle → i < n
-      → Allows (Kept mach key) n id (Works w, []) (i + 2) (λ y. either (eqb y 0) (w.thread + 1) y) (Takes mach fits (step n (i + 2) 0 (w.thread + 1) none) (Works w, []))
+      → Allows (Kept mach key) n id (Works w, []) (part_word i) (λ y. either (eqb y 0) (w.thread + 1) y) (Takes mach fits (step n (part_word i) 0 (w.thread + 1) none) (Works w, []))
   takes_part n id i w idle near s kept wide at _ =
       let r = kept.3 in let a : Account P L = kept.1 in let threads : List ℕ = kept.2 in
-      let y : ℕ = word s.words (i + 2) in let words' : List ℕ = set s.words (i + 2) (w.thread + 1) in let size = r.sized in
+      let y : ℕ = word s.words (part_word i) in let words' : List ℕ = set s.words (part_word i) (w.thread + 1) in let size = r.sized in
       let mine = r.each id (Works w) at in let (machine, events, named, local, made, saw, caused) = mine.0 in
       let limit = few_deeds r in let most = kept.0 in let few : length a.deeds ≤ 40000000 = omega arith in
-      let then = Takes mach fits (step n (i + 2) 0 (w.thread + 1) none) (Works w, []) in
-      exchanged y 0 (w.thread + 1) (Goes mach key s id (Works w, []) (i + 2) then)
+      let then = Takes mach fits (step n (part_word i) 0 (w.thread + 1) none) (Works w, []) in
+      exchanged y 0 (w.thread + 1) (Goes mach key s id (Works w, []) (part_word i) then)
       (λ free.
       let x = r.at_home i (omega arith) free in
       let u : Work X P L = at_stage (Taken (hold i x.0)) w in let holder : ℕ → ℕ = put a.holder i id in
@@ -65,12 +65,12 @@ module _ {X P L : Type 0} (mach : X → Rules P L) (fits : X → P → L → Typ
           record a { holder = holder },
           threads,
           turned_ties mach key s.words words' s.homes (set s.homes i none) s.views a threads id u holder a.owner w refl at r record {
-            long = length-set s.words (i + 2) (w.thread + 1);
+            long = length-set s.words (part_word i) (w.thread + 1);
             wide = length-set s.homes i none;
             halt = omega arith;
             next = omega arith;
             home = λ k less zero. dite (ℕ_discrete k i)
-                (λ e. absurd (let h : word words' (k + 2) ≡ w.thread + 1 = rw e here in omega arith))
+                (λ e. absurd (let h : word words' (part_word k) ≡ w.thread + 1 = rw e here in omega arith))
                 (λ ne. let o = r.at_home k less (sym (now.other k ne) ∙ zero) in (o.0, set_else s.homes i k none ne ∙ o.1, o.2, o.3));
             away = λ k less full. dite (ℕ_discrete k i)
                 (λ e. (Works u, rw (e, put_here a.holder i id) (set_at s.views id (Works w) (Works u) at), sym e))
@@ -84,6 +84,6 @@ module _ {X P L : Type 0} (mach : X → Rules P L) (fits : X → P → L → Typ
             halting = (omega arith, (λ e. omega arith), (λ e. omega arith));
           },
         ),
-        ((λ _. finds_part a w i (i + 2 - 2) x.0 (omega arith) x.2 x.3 r.chained few machine local saw), λ ne. absurd (ne free)),
+        ((λ _. finds_part a w i (slot_of (part_word i)) x.0 (omega arith) x.2 x.3 r.chained few machine local saw), λ ne. absurd (ne free)),
       ))
-      (λ busy. (Works w, keeps, tt, stands_still mach key s id (i + 2) (Works w) [] kept at, ((λ free. absurd (busy free)), (λ _. refl))))
+      (λ busy. (Works w, keeps, tt, stands_still mach key s id (part_word i) (Works w) [] kept at, ((λ free. absurd (busy free)), (λ _. refl))))

@@ -16,7 +16,8 @@ module _ {X P L : Type 0} where
   abbrev pub run_of : (X → Rules P L) → Key X → List (Act P L) → World P L
   run_of mach key acts = run (mach key.machine) (threads_of acts)
 
-  -- The entries of all parts, a list for each, are one chained list of acts, whose merge is a run of polite picks that move. The parts are that run's, and each seat that was joined has its own acts and its local of that run.
+  -- The entries of all parts, a list for each, are one chained list of acts, whose merge is a run of polite picks that move. The
+  -- parts are that run's, and each seat that was joined has its own acts and its local of that run.
   pub record IsClosed (mach : X → Rules P L) (key : Key X) (m : Lead X P L) (parts : List P) (entries : List (List Entry)) : Type 0 where
     pub acts : List (Act P L)
     pub by_tickets : Rising rank acts

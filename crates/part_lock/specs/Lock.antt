@@ -1,5 +1,5 @@
 -- The rule of the table of parts, and what each step tells.
-use Rattle.std.specs.Prelude.{◌≡◌, ◌≢◌, ℕ, zero, suc, ◌+◌, ◌-◌, ◌<◌, ◌≤◌, List, [], ◌∷◌, ◌++◌, length, map, filter, slice_index, slice_get, Bool, true, false, Some, None}
+use Rattle.std.specs.Prelude.{◌≡◌, ◌≢◌, ℕ, zero, suc, ◌+◌, ◌-◌, ◌*◌, ◌/◌, ◌<◌, ◌≤◌, List, [], ◌∷◌, ◌++◌, length, map, filter, slice_index, slice_get, Bool, true, false, Some, None}
 use Rattle.std.specs.Prelude.{Option as Maybe}
 use mathlib.Core.Option.{Option, some}
 use lib.ListN.{get_elem?}
@@ -27,6 +27,17 @@ pub data Place : Type 0 where
   lies : ℕ → Place
   held : ℕ → Place
 
+-- The words of the table: 0 is of halt, and then come those of tickets and of each part. Unused words stand between them, so that no two lie
+-- in one line of a cache, of 8 words, nor in two that a processor fetches together.
+abbrev pub ticket_word : ℕ
+ticket_word = 16
+
+abbrev pub part_word : ℕ → ℕ
+part_word i = 16 * (i + 2)
+
+abbrev pub slot_of : ℕ → ℕ
+slot_of word = word / 16 - 2
+
 abbrev pub flag : ℕ → ℕ
 flag zero = 0
 flag (suc n) = 1
@@ -42,7 +53,8 @@ hold i x = record { slot = i; found = x.entries.items; part = x.part }
 abbrev pub part_no : ℕ → PartNo
 part_no i = record { 0 = i }
 
--- what the rule knows beside the table: the acts in the order in which their parts were given back, which view holds each part, which view each thread's seat has (0 where it was joined), and where each ticket is
+-- what the rule knows beside the table: the acts in the order in which their parts were given back, which view holds each part,
+-- which view each thread's seat has (0 where it was joined), and where each ticket is
 pub record Account (P L : Type 0) : Type 0 where
   pub deeds : List (Act P L)
   pub holder : ℕ → ℕ
@@ -80,31 +92,35 @@ module _ {X P L : Type 0} where
 module _ {X P L : Type 0} (mach : X → Rules P L) (x : X) (events : ℕ) where
   -- a turn that is over: the part's first entries are those that it found, they left the part that it found, and its own entry came behind them
   abbrev pub Saw : List (Act P L) → Visit P → Type 0
-  Saw deeds v = (before : List (Act P L)) × (after : List (Act P L)) × (at_part v.slot deeds ≡ before ++ after) × (length before ≡ v.found) × (part_left (mach x) v.slot before ≡ Some v.part) × (v.entered ≤ length after)
+  Saw deeds v = (before : List (Act P L)) × (after : List (Act P L)) × (at_part v.slot deeds ≡ before ++ after) × (length before ≡ v.found)
+      × (part_left (mach x) v.slot before ≡ Some v.part) × (v.entered ≤ length after)
 
   module _ (words : List ℕ) (slots : ℕ) (a : Account P L) (threads : List ℕ) where
     -- the halt word is no less than a cause that was noted, and the limit was passed where it was met
     abbrev pub Caused : ℕ → Bool → Type 0
-    Caused cause noted = (cause ≤ 2) × (noted ≡ true → cause ≤ slice_index words 0) × (cause ≡ 1 → events < slice_index words 1)
+    Caused cause noted = (cause ≤ 2) × (noted ≡ true → cause ≤ slice_index words 0) × (cause ≡ 1 → events < slice_index words ticket_word)
 
     -- the seat of a thread that is listed has the local that its last act left, and its own acts
     abbrev pub Knows : Work X P L → Type 0
-    Knows w = (w.machine ≡ x) × (w.events ≡ events) × Has threads w.thread × (local_left (mach x) w.thread (of_thread w.thread a.deeds) ≡ Some w.local) × (w.made ≡ of_thread w.thread a.deeds) × ((v : Visit P) → Has w.visits v → Saw a.deeds v) × Caused w.cause w.noted
+    Knows w = (w.machine ≡ x) × (w.events ≡ events) × Has threads w.thread × (local_left (mach x) w.thread (of_thread w.thread a.deeds) ≡ Some w.local)
+        × (w.made ≡ of_thread w.thread a.deeds) × ((v : Visit P) → Has w.visits v → Saw a.deeds v) × Caused w.cause w.noted
 
     -- the seat id, of that thread, holds the part
     abbrev pub Holding : ℕ → ℕ → Hold P → Type 0
-    Holding id thread h = (h.slot < slots) × (a.holder h.slot ≡ id) × (slice_index words (h.slot + 2) ≡ thread + 1) × (h.found ≡ entries_at h.slot a.deeds) × (part_left (mach x) h.slot (at_part h.slot a.deeds) ≡ Some h.part)
+    Holding id thread h = (h.slot < slots) × (a.holder h.slot ≡ id) × (slice_index words (part_word h.slot) ≡ thread + 1)
+        × (h.found ≡ entries_at h.slot a.deeds) × (part_left (mach x) h.slot (at_part h.slot a.deeds) ≡ Some h.part)
 
     -- a ticket that is held is below the next one and above all entries of its part and of its thread
     abbrev pub StageFits : ℕ → Work X P L → Stage P → Type 0
     StageFits id w Idle = Unit {0}
     StageFits id w (Taken h) = Holding id w.thread h
     StageFits id w (Drawn h t) =
-        Holding id w.thread h × (a.owner t ≡ held id) × (t < slice_index words 1) × (t < events)
+        Holding id w.thread h × (a.owner t ≡ held id) × (t < slice_index words ticket_word) × (t < events)
         × ((d : Act P L) → Has (at_part h.slot a.deeds) d → d.ticket < t) × ((d : Act P L) → Has (of_thread w.thread a.deeds) d → d.ticket < t) × (w.cause ≡ 0)
 
     abbrev pub Fits : ℕ → View X P L → Type 0
-    Fits id (Leads m) = (id ≡ 0) × (m.machine ≡ x) × (m.events ≡ events) × (m.threads ≡ threads) × ((w : Work X P L) → Has m.kept w → Knows w × (a.seat w.thread ≡ 0) × (w.stage ≡ Idle)) × Once (map thread_of m.kept)
+    Fits id (Leads m) = (id ≡ 0) × (m.machine ≡ x) × (m.events ≡ events) × (m.threads ≡ threads) × ((w : Work X P L) → Has m.kept w → Knows w
+        × (a.seat w.thread ≡ 0) × (w.stage ≡ Idle)) × Once (map thread_of m.kept)
     Fits id (Works w) = Knows w × (a.seat w.thread ≡ id) × StageFits id w w.stage
     Fits id Spent = Unit {0}
 
@@ -177,24 +193,26 @@ module _ {X P L : Type 0} where
   LeadsAt views threads = (m : Lead X P L) × (get_elem? views 0 ≡ some (Leads m)) × (total one views ≡ length threads)
 
   abbrev pub Halting : List ℕ → ℕ → List (View X P L) → Type 0
-  Halting words events views = (slice_index words 0 ≤ 2) × (slice_index words 0 ≡ 1 → events < slice_index words 1) × (slice_index words 0 ≡ 2 → 0 < total starved views)
+  Halting words events views = (slice_index words 0 ≤ 2) × (slice_index words 0 ≡ 1 → events < slice_index words ticket_word) × (slice_index words 0 ≡ 2 → 0 < total starved views)
 
   pub record Ties (mach : X → Rules P L) (key : Key X) (words : List ℕ) (homes : List (Option (Stall P))) (views : List (View X P L)) (a : Account P L) (threads : List ℕ) : Type 0 where
-    pub sized : length words ≡ length homes + 2
+    pub sized : length words ≡ part_word (length homes)
     pub counted : length homes ≡ length (mach key.machine).parts
-    pub at_home : (i : ℕ) → i < length homes → slice_index words (i + 2) ≡ 0 → (x : Stall P) × (get_elem? homes i ≡ some (some x)) × (x.entries.items ≡ entries_at i a.deeds) × (part_left (mach key.machine) i (at_part i a.deeds) ≡ Some x.part)
-    pub away : (i : ℕ) → i < length homes → slice_index words (i + 2) ≢ 0 → Out views (a.holder i) i
+    pub at_home : (i : ℕ) → i < length homes → slice_index words (part_word i) ≡ 0 → (x : Stall P) × (get_elem? homes i ≡ some (some x))
+        × (x.entries.items ≡ entries_at i a.deeds) × (part_left (mach key.machine) i (at_part i a.deeds) ≡ Some x.part)
+    pub away : (i : ℕ) → i < length homes → slice_index words (part_word i) ≢ 0 → Out views (a.holder i) i
     pub each : (id : ℕ) (v : View X P L) → get_elem? views id ≡ some v → Fits mach key.machine key.events words (length homes) a threads id v
     pub chained : AreChainedFrom (mach key.machine) (start (mach key.machine)) a.deeds
     pub rises : (i : ℕ) → Rising rank (at_part i a.deeds)
     pub steady : (t : ℕ) → Rising rank (of_thread t a.deeds)
-    pub owned : (k : ℕ) (d : Act P L) → slice_get a.deeds k ≡ Some d → (a.owner d.ticket ≡ lies k) × (d.ticket < slice_index words 1) × (d.ticket < key.events) × Has threads d.thread × (d.place.0 < length homes)
+    pub owned : (k : ℕ) (d : Act P L) → slice_get a.deeds k ≡ Some d → (a.owner d.ticket ≡ lies k) × (d.ticket < slice_index words ticket_word)
+        × (d.ticket < key.events) × Has threads d.thread × (d.place.0 < length homes)
     pub leader : LeadsAt views threads
     pub once : Once threads
     pub small : (t : ℕ) → Has threads t → t < 256
     pub standing : (t : ℕ) → Has threads t → Stands views (a.seat t) t
-    pub bounded : slice_index words 1 ≤ key.events + total ended views
-    pub complete : (k : ℕ) → k ≤ slice_index words 1 → k ≤ key.events → k ≤ length a.deeds + total lost views
+    pub bounded : slice_index words ticket_word ≤ key.events + total ended views
+    pub complete : (k : ℕ) → k ≤ slice_index words ticket_word → k ≤ key.events → k ≤ length a.deeds + total lost views
     pub halting : Halting words key.events views
 
   -- The rule: at most 40,000,000 tickets are used, and some account fits the table.
@@ -284,7 +302,7 @@ module _ {X P L : Type 0} where
 
   abbrev pub Takes : (X → Rules P L) → (X → P → L → Type 0) → Step (Stall P) → Mine X P L → ℕ → Mine X P L → Type 0
   Takes mach fits st me found me' =
-      (found ≡ 0 → (x : Stall P) × (me' ≡ (at_view (at_stage (Taken (hold (st.word - 2) x))) me.0, (st.word - 2, x) ∷ me.1)) × Finds mach fits (st.word - 2) x me.0)
+      (found ≡ 0 → (x : Stall P) × (me' ≡ (at_view (at_stage (Taken (hold (slot_of st.word) x))) me.0, (slot_of st.word, x) ∷ me.1)) × Finds mach fits (slot_of st.word) x me.0)
       × (found ≢ 0 → me' ≡ me)
 
   abbrev pub Draws : Step (Stall P) → Mine X P L → ℕ → Mine X P L → Type 0

@@ -64,7 +64,8 @@ module _ {X P L : Type 0} where
     -- w, ready, has just taken the part, and found x
     abbrev pub InTurn : (X → P → L → Type 0) → ℕ → ℕ → L → Work X P L → Stall P → Mine X P L → Type 0
     InTurn fits thread part l w x me =
-        (me ≡ (Works (at_stage (Taken (hold part x)) w), (part, x) ∷ [])) × IsReady key thread l w (Works w, []) × (w.cause ≡ 0) × ((mach key.machine).want l ≡ Some (part_no part)) × fits key.machine x.part l × Fresh w part (length x.entries.items)
+        (me ≡ (Works (at_stage (Taken (hold part x)) w), (part, x) ∷ [])) × IsReady key thread l w (Works w, []) × (w.cause ≡ 0)
+            × ((mach key.machine).want l ≡ Some (part_no part)) × fits key.machine x.part l × Fresh w part (length x.entries.items)
 
     -- the same, and the part lies as y, with room for an entry, and goes on
     abbrev pub InPlace : (X → P → L → Type 0) → ℕ → ℕ → L → Work X P L → Stall P → Stall P → Mine X P L → Type 0
@@ -79,7 +80,8 @@ module _ {X P L : Type 0} where
 
     abbrev pub Moves : Work X P L → L → L → Mine X P L → Hold P → ℕ → Type 0
     Moves w l l' me h t =
-        Turns w l h × ((mach key.machine).waits h.part l ≡ false) × ((mach key.machine).yields h.part l ≡ true) × (l' ≡ ((mach key.machine).after h.part l).1) × (me ≡ (Works (entered h t l' w), [])) × (t < key.events)
+        Turns w l h × ((mach key.machine).waits h.part l ≡ false) × ((mach key.machine).yields h.part l ≡ true)
+            × (l' ≡ ((mach key.machine).after h.part l).1) × (me ≡ (Works (entered h t l' w), [])) × (t < key.events)
 
     -- the turn ended without an entry, and the seat has this cause
     abbrev pub Leaves : Work X P L → L → L → Mine X P L → Hold P → ℕ → Bool → Type 0
@@ -114,7 +116,10 @@ module _ {X P L : Type 0} where
   Answers mach key w l l' me TurnNotYet = Tells mach key w l l' me NotYet
   Answers mach key w l l' me TurnHeld = Tells mach key w l l' me Held
   Answers mach key w l l' me TurnEnded = ((mach key.machine).want l ≡ None) × (l' ≡ l) × (me ≡ (Works w, []))
-  Answers mach key w l l' me (TurnHalted c) = ((c ≡ FullHalt) × (t : ℕ) × Tells mach key w l l' me (Full t)) ⊎ (((c ≡ MemoryHalt) × Tells mach key w l l' me Memory) ⊎ ((i : ℕ) × ((mach key.machine).want l ≡ Some (part_no i)) × Tells mach key w l l' me (Halted c)))
+  Answers mach key w l l' me (TurnHalted c) = ((c ≡ FullHalt) × (t : ℕ) × Tells mach key w l l' me (Full t))
+      ⊎ (((c ≡ MemoryHalt) × Tells mach key w l l' me Memory) ⊎ ((i : ℕ) × ((mach key.machine).want l ≡ Some (part_no i))
+      × Tells mach key w l l' me (Halted c)))
 
   abbrev pub HandTurns : (X → Rules P L) → Key X → Seat (Stall P) (View X P L) → L → ThreadNo → Turn → Seat (Stall P) (View X P L) → L → ThreadNo → Type 0
-  HandTurns mach key seat local thread answer seat' local' thread' = (thread' ≡ thread) × (seat'.table_id ≡ seat.table_id) × Ready key thread.0 local' seat'.me × ((w : Work X P L) → IsReady key thread.0 local w seat.me → Answers mach key w local local' seat'.me answer)
+  HandTurns mach key seat local thread answer seat' local' thread' = (thread' ≡ thread) × (seat'.table_id ≡ seat.table_id)
+      × Ready key thread.0 local' seat'.me × ((w : Work X P L) → IsReady key thread.0 local w seat.me → Answers mach key w local local' seat'.me answer)

@@ -27,7 +27,8 @@ where
     requires main { (m : _) × IsMain parts.now.key m main.old.me }
     requires fits { Fit parts.now.table.shared.table_id parts.now.key worker.hand }
     ensures seat { main.new.table_id ≡ main.old.table_id }
-    ensures main { (m : _) (w : _) → IsMain parts.now.key m main.old.me → IsReady parts.now.key worker.hand.thread.0 worker.hand.local w worker.hand.seat.me → IsMain parts.now.key (one_joined m w) main.new.me }
+    ensures main { (m : _) (w : _) → IsMain parts.now.key m main.old.me
+        → IsReady parts.now.key worker.hand.thread.0 worker.hand.local w worker.hand.seat.me → IsMain parts.now.key (one_joined m w) main.new.me }
     ensures local { result ≡ worker.hand.local }
 {
     let Worker {
@@ -84,7 +85,9 @@ where
     M::Local: Send,
     requires seat { main.old.table_id ≡ parts.now.table.shared.table_id }
     requires main { (m : _) × IsMain parts.now.key m main.old.me }
-    requires ran { (before : List _) × (length before ≡ length workers.items) × All (IsWorkerReady (Fit parts.now.table.shared.table_id parts.now.key)) before × RanBelow (Turned M.rules parts.now.key) (λ h. h.thread) (Fit parts.now.table.shared.table_id parts.now.key) (length before) before workers.items }
+    requires ran { (before : List _) × (length before ≡ length workers.items)
+        × All (IsWorkerReady (Fit parts.now.table.shared.table_id parts.now.key)) before
+        × RanBelow (Turned M.rules parts.now.key) (λ h. h.thread) (Fit parts.now.table.shared.table_id parts.now.key) (length before) before workers.items }
     ensures seat { main.new.table_id ≡ main.old.table_id }
     ensures main { IfOk result (λ _. JoinsAll parts.now.key main.old.me (map (λ w. w.hand) workers.items) main.new.me) }
     ensures locals { IfOk result (λ locals. locals.items ≡ map (λ w. w.hand.local) workers.items) }

@@ -9,6 +9,7 @@ mod rule;
 mod seated;
 mod turn;
 mod view;
+mod words;
 
 pub use board::{PartBoard, PartHand};
 pub use joined::join_all;

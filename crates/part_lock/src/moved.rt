@@ -7,19 +7,6 @@ use atomic_table::Closed;
 use std::alloc::{AllocError, Global};
 use tc_model::Entry;
 
-/// A table's words at its start: of halt, of tickets, and of n parts.
-pub(crate) fn zeros(alloc: Global, n: usize) -> Result<Vec<u64>, AllocError>
-    ensures { IfOk result (λ v. v.items ≡ 0 ∷ 0 ∷ replicate n 0) }
-{
-    let mut v = Vec::new(alloc);
-    v.push(0)?;
-    v.push(0)?;
-    for _i in 0..n {
-        v.push(0)?;
-    }
-    Ok(v)
-}
-
 /// The items with the last one first.
 pub(crate) fn turned<T: Drop>(mut items: Vec<T>) -> Vec<T>
     ensures { result.items ≡ reverse items.items }

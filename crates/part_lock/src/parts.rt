@@ -2,15 +2,16 @@
 ghost use Rattle.std.specs.Prelude.{◌≡◌, ◌≢◌, ℕ, ◌+◌, ◌<◌, ◌≤◌, ◌++◌, [], ◌∷◌, Some, IfOk, IfErr, vec_len, vec_capacity, length, map, false, true, All, replicate, slice_get};
 ghost use Rattle.std.specs.Slots.{IsFull, slots_len, slots_items};
 ghost use Rattle.tc_model.specs.Rises.{Has};
-ghost use Rattle.part_lock.specs.Lock.{first_lead, one_more, one_joined, IsMain, part_no};
+ghost use Rattle.part_lock.specs.Lock.{first_lead, one_more, one_joined, IsMain, part_no, part_word};
 ghost use Rattle.part_lock.specs.Closes.{IsClosed};
 ghost use Rattle.part_lock.specs.Turns.{halt_number, IsReady, IsFresh, Ready, Tells};
 ghost use Rattle.part_lock.specs.declared.view.Stage.TheVariants.{Idle};
 ghost use Rattle.part_lock.specs.declared.view.View.TheVariants.{Works};
 
-use crate::moved::{drain, fill, unfill, zeros};
+use crate::moved::{drain, fill, unfill};
 use crate::rule::{CutFor, Keep, Law, Pick, See};
 use crate::view::{Key, Stall, Step, View};
+use crate::words::{HALT, zeros};
 use atomic_table::{Refused, Table};
 use std::alloc::{AllocError, Global};
 use std::marker::Brand;
@@ -25,14 +26,14 @@ pub type Seat<M> = atomic_table::Seat<
 >;
 
 /// The parts of a machine for several threads: a word of halt, a word of tickets, and a word and a slot
-/// for each part.
+/// for each part, with unused words between.
 #[derive(Drop)]
 pub struct Parts<M: Machine> {
     pub(crate) key: Key<M>,
     pub(crate) table: Table<Stall<M::Part>, View<M, M::Part, M::Local>, Key<M>, Law<M>, Global>,
     pub(crate) alloc: Global,
     pub ghost keyed: { table.shared.key ≡ key },
-    pub ghost sized: { table.shared.table_id.words ≡ table.shared.table_id.slots + 2 },
+    pub ghost sized: { table.shared.table_id.words ≡ part_word table.shared.table_id.slots },
 }
 
 /// No memory was there. What was given comes back.
@@ -173,7 +174,7 @@ impl<M: Machine> Parts<M> {
         ensures ready { Ready self.now.key thread.0 local.new seat.new.me }
         ensures told { (w : _) → IsReady self.now.key thread.0 local.old w seat.old.me → Tells M.rules self.now.key w local.old local.new seat.new.me result }
     {
-        let halt = self.table.shared.load::<See<M>>(seat, 0);
+        let halt = self.table.shared.load::<See<M>>(seat, HALT);
         if halt != 0 {
             return Step::Halted {
                 cause: halt_of(halt),

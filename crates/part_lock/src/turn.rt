@@ -9,11 +9,17 @@ ghost use Rattle.part_lock.specs.declared.view.View.TheVariants.{Works};
 use crate::parts::{Parts, Seat};
 use crate::rule::{Draw, Fail, Give, Halts, Return, Take};
 use crate::view::{Judged, Key, Stall, Step};
+use crate::words::{HALT, TICKET, word_of};
 use std::alloc::Global;
+use std::hint::spin_loop;
 use std::sync::Wait;
 use std::thread::yield_now;
 use tc_model::{Acted, Entry, Machine, PartNo};
-use tc_units::ThreadNo;
+use tc_units::{ThreadNo, make_room};
+
+/// Tries for a part, each a short rest behind the one before, until another thread may run: a part is held for less time than the
+/// system needs to change threads.
+const TRIES: u32 = 50;
 
 /// The number of the cause that an answer sets, 0 for none.
 fn number_of(answer: Step) -> u64
@@ -23,6 +29,18 @@ fn number_of(answer: Step) -> u64
         Step::Full { ticket: _ } => 1,
         Step::Memory => 2,
         _ => 0,
+    }
+}
+
+/// Lets the processor rest after a try that came too early, or another thread run after some of them: how many tries there were
+/// since then.
+fn wait_a_little(tries: u32) -> u32 {
+    if tries < TRIES {
+        spin_loop();
+        tries + 1
+    } else {
+        yield_now();
+        0
     }
 }
 
@@ -38,7 +56,7 @@ fn judge<M: Machine>(key: &Key<M>, stall: &mut Stall<M::Part>, local: &M::Local)
     if !key.machine.yields(&stall.part, local) {
         return Judged::Yields;
     }
-    match stall.entries.reserve(1) {
+    match make_room(&mut stall.entries) {
         Ok(()) => Judged::Goes,
         Err(_) => Judged::NoRoom,
     }
@@ -55,7 +73,9 @@ fn act_on<M: Machine>(
     requires fits { M.fits key.now.machine stall.old.part local.old }
     requires goes { (M.rules key.now.machine).waits stall.old.part local.old ≡ false }
     requires room { vec_len stall.old.entries < vec_capacity stall.old.entries }
-    ensures moved { result ≡ true → (stall.new.entries.items ≡ stall.old.entries.items ++ entry ∷ []) × (stall.new.part ≡ ((M.rules key.now.machine).after stall.old.part local.old).0) × (local.new ≡ ((M.rules key.now.machine).after stall.old.part local.old).1) }
+    ensures moved { result ≡ true → (stall.new.entries.items ≡ stall.old.entries.items ++ entry ∷ [])
+        × (stall.new.part ≡ ((M.rules key.now.machine).after stall.old.part local.old).0)
+        × (local.new ≡ ((M.rules key.now.machine).after stall.old.part local.old).1) }
     ensures kept { result ≡ false → (stall.new.entries.items ≡ stall.old.entries.items) × (stall.new.part ≡ stall.old.part) × (local.new ≡ local.old) }
 {
     match key.machine.act(alloc, &mut stall.part, local) {
@@ -79,7 +99,7 @@ impl<M: Machine> Parts<M> {
         let slot = part.0 as usize;
         self.table
             .shared
-            .compare_exchange::<Take<M>>(seat, slot + 2, 0, thread.0 as u64 + 1)
+            .compare_exchange::<Take<M>>(seat, word_of(slot), 0, thread.0 as u64 + 1)
             == 0
     }
 
@@ -97,11 +117,12 @@ impl<M: Machine> Parts<M> {
         ensures seat { (seat.new.table_id ≡ seat.old.table_id) × (seat.new.id ≡ seat.old.id) }
         ensures took { (x : _) × (seat.new.me ≡ (at_view (at_stage (Taken (hold part.0 x))) seat.old.me.0, (part.0, x) ∷ [])) × Finds M.rules M.fits part.0 x seat.old.me.0 }
     {
+        let mut tries = 0;
         for _ in rt.forever() {
             if self.try_take(seat, part, thread) {
                 return;
             }
-            yield_now();
+            tries = wait_a_little(tries);
         }
         unreachable!()
     }
@@ -110,7 +131,9 @@ impl<M: Machine> Parts<M> {
         requires seat { seat.old.table_id ≡ self.now.table.shared.table_id }
         requires holds { (x : _) × HoldsOnly part x seat.old.me × M.fits self.now.key.machine x.part local.now }
         ensures seat { (seat.new.table_id ≡ seat.old.table_id) × (seat.new.id ≡ seat.old.id) }
-        ensures same { (x : _) × (y : _) × HoldsOnly part x seat.old.me × (seat.new.me ≡ (seat.old.me.0, (part, y) ∷ [])) × (y.entries.items ≡ x.entries.items) × (y.part ≡ x.part) × Judges M.rules self.now.key x.part local.now (vec_len y.entries) (vec_capacity y.entries) result }
+        ensures same { (x : _) × (y : _) × HoldsOnly part x seat.old.me × (seat.new.me ≡ (seat.old.me.0, (part, y) ∷ []))
+            × (y.entries.items ≡ x.entries.items) × (y.part ≡ x.part)
+            × Judges M.rules self.now.key x.part local.now (vec_len y.entries) (vec_capacity y.entries) result }
     {
         let stall = seat.slot_mut(&self.table.shared, part);
         judge(&self.key, stall, local)
@@ -118,10 +141,12 @@ impl<M: Machine> Parts<M> {
 
     fn act_held(&self, seat: &mut Seat<M>, part: usize, entry: Entry, local: &mut M::Local) -> bool
         requires seat { seat.old.table_id ≡ self.now.table.shared.table_id }
-        requires holds { (x : _) × HoldsOnly part x seat.old.me × (vec_len x.entries < vec_capacity x.entries) × M.fits self.now.key.machine x.part local.old × ((M.rules self.now.key.machine).waits x.part local.old ≡ false) }
+        requires holds { (x : _) × HoldsOnly part x seat.old.me × (vec_len x.entries < vec_capacity x.entries)
+            × M.fits self.now.key.machine x.part local.old × ((M.rules self.now.key.machine).waits x.part local.old ≡ false) }
         ensures seat { (seat.new.table_id ≡ seat.old.table_id) × (seat.new.id ≡ seat.old.id) }
         ensures done { (x : _) × (y : _) × HoldsOnly part x seat.old.me × (seat.new.me ≡ (seat.old.me.0, (part, y) ∷ []))
-            × (result ≡ true → (y.entries.items ≡ x.entries.items ++ entry ∷ []) × (y.part ≡ ((M.rules self.now.key.machine).after x.part local.old).0) × (local.new ≡ ((M.rules self.now.key.machine).after x.part local.old).1))
+            × (result ≡ true → (y.entries.items ≡ x.entries.items ++ entry ∷ []) × (y.part ≡ ((M.rules self.now.key.machine).after x.part local.old).0)
+                × (local.new ≡ ((M.rules self.now.key.machine).after x.part local.old).1))
             × (result ≡ false → (y.entries.items ≡ x.entries.items) × (y.part ≡ x.part) × (local.new ≡ local.old)) }
     {
         let stall = seat.slot_mut(&self.table.shared, part);
@@ -143,17 +168,18 @@ impl<M: Machine> Parts<M> {
         ensures acts { (w : _) (x : _) → InTurn M.rules self.now.key M.fits thread.0 part local.old w x seat.old.me → Acts M.rules self.now.key w local.old local.new seat.new.me (hold part x) result }
     {
         let shared = &self.table.shared;
+        let word = word_of(part);
         match self.judge_held(seat, part, local) {
             Judged::Waits => {
-                shared.store::<Return>(seat, part + 2, 0);
+                shared.store::<Return>(seat, word, 0);
                 Step::NotYet
             }
             Judged::Yields => {
-                shared.store::<Return>(seat, part + 2, 0);
+                shared.store::<Return>(seat, word, 0);
                 Step::Held
             }
             Judged::NoRoom => {
-                shared.store::<Fail>(seat, part + 2, 0);
+                shared.store::<Fail>(seat, word, 0);
                 Step::Memory
             }
             Judged::Goes => self.act_now(seat, local, part, thread),
@@ -172,12 +198,14 @@ impl<M: Machine> Parts<M> {
         requires part { (part < self.now.table.shared.table_id.slots) × (part < 65536) }
         requires turn { (w : _) × (x : _) × (y : _) × InPlace M.rules self.now.key M.fits thread.0 part local.old w x y seat.old.me }
         ensures seat { (seat.new.table_id ≡ seat.old.table_id) × (seat.new.id ≡ seat.old.id) }
-        ensures acts { (w : _) (x : _) (y : _) → InPlace M.rules self.now.key M.fits thread.0 part local.old w x y seat.old.me → Acts M.rules self.now.key w local.old local.new seat.new.me (hold part x) result }
+        ensures acts { (w : _) (x : _) (y : _) → InPlace M.rules self.now.key M.fits thread.0 part local.old w x y seat.old.me
+            → Acts M.rules self.now.key w local.old local.new seat.new.me (hold part x) result }
     {
         let shared = &self.table.shared;
-        let ticket = shared.fetch_add::<Draw>(seat, 1, 1);
+        let word = word_of(part);
+        let ticket = shared.fetch_add::<Draw>(seat, TICKET, 1);
         if ticket >= u64::from(self.key.events) {
-            shared.store::<Return>(seat, part + 2, 0);
+            shared.store::<Return>(seat, word, 0);
             return Step::Full { ticket };
         }
         let entry = Entry {
@@ -185,10 +213,10 @@ impl<M: Machine> Parts<M> {
             thread,
         };
         if !self.act_held(seat, part, entry, local) {
-            shared.store::<Fail>(seat, part + 2, 0);
+            shared.store::<Fail>(seat, word, 0);
             return Step::Memory;
         }
-        shared.store::<Give<M>>(seat, part + 2, 0);
+        shared.store::<Give<M>>(seat, word, 0);
         Step::Moved { ticket }
     }
 
@@ -201,7 +229,7 @@ impl<M: Machine> Parts<M> {
     {
         let cause = number_of(answer);
         if cause != 0 {
-            self.table.shared.fetch_max::<Halts>(seat, 0, cause);
+            self.table.shared.fetch_max::<Halts>(seat, HALT, cause);
         }
     }
 }

@@ -12,8 +12,8 @@ pub struct Key<X> {
 /// A part with the entries of its acts.
 #[derive(Drop)]
 pub struct Stall<P> {
-    pub part: P,
     pub entries: Vec<Entry>,
+    pub part: P,
 }
 
 /// A part that is held, as it was found. No value of it is made.

@@ -1,6 +1,6 @@
 -- The names of the crates below that most proofs here cite, passed on from one place. Declares nothing.
 pub use Rattle.range_bits.specs.Fills.{free_count, IsEnd, StaysUsed}
-pub use Rattle.range_bits.specs.Ranges.{begins_range, best, first_least, first_of_two, free_from, longest, places, used_count, used_from, with_places}
+pub use Rattle.range_bits.specs.Ranges.{begins_range, best, first_least, free_from, longest, places, used_count, used_from, with_places}
 pub use Rattle.range_bits.specs.Words.{is_marked, is_one, IsNext, IsNextRange, row_of}
 pub use Rattle.std.proofs.Math.Nat.{pow-le-pow_right, pow-succ'}
 pub use Rattle.std.proofs.lemmas.Bool.{and_from, and_left, and_parts, and_right, cases_Bool, cases_lt, cond_both, le-leb, le-ltb, leb-false, leb-true, lt-ltb}

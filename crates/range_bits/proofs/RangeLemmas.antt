@@ -2,8 +2,9 @@
 use Rattle.range_bits.proofs.Common.{common_steps, nat_tests, range_with_len, cases_Bool, and_parts, not-true, not_from_false, leb-true}
 use Rattle.range_bits.proofs.Common.{or_right, cases_lt, length-drop, get_or-drop, get_or-map, nil_from_length, length-map, prefix_len_passes}
 use Rattle.range_bits.proofs.Common.{prefix_len-le-length, prefix_len-drop_yes, length-filter, get_or-le-sum_by, All-head, All-tail, All-from_get_or}
-use Rattle.range_bits.proofs.Common.{filter_passes, free_from, places, longest, begins_range, first_of_two, first_least, best, count_none}
-use Rattle.std.proofs.Common.{◌≡◌, ℕ, zero, suc, ◌+◌, ◌<◌, ◌≤◌, ◌⊎◌, Bool, true, false, not, ◌&&◌, nat_lt, nat_le, List, [], ◌∷◌, length, get_or, drop, map}
+use Rattle.range_bits.proofs.Common.{filter_passes, free_from, places, longest, begins_range, first_least, best, count_none}
+use Rattle.std.proofs.Common.{◌≡◌, ℕ, zero, suc, ◌+◌, ◌<◌, ◌≤◌, ◌⊎◌, Bool, true, false, not, ◌&&◌, cond, nat_lt, nat_le, List, [], ◌∷◌, length, get_or, drop, map}
+use Rattle.std.specs.Option.{option_map_or}
 use Rattle.std.proofs.Common.{filter, fold, max, Option, Some, None, IfSome, All, refl, ap, subst, ◌∙◌, inl, inr, arith}
 use Rattle.std.proofs.lemmas.List.FromFn.{length-range_with_len, get_or-range_with_len}
 
@@ -67,10 +68,11 @@ start_of row n (suc place) h some far =
           start_of row n place (omega arith) some (omega arith)
     ]
 
-one_of : {X : Type 0} (P : X → Type 0) (less : X → X → Bool) (x : X) (o : Option X) → P x → IfSome o P → P (first_of_two less x o)
+one_of : {X : Type 0} (P : X → Type 0) (less : X → X → Bool) (x : X) (o : Option X) → P x → IfSome o P → P (option_map_or (λ y. cond (less y x) y x) o x)
 one_of P less x o h k = grind (arith, nat_tests)
 
-two_agree : {X : Type 0} (P : X → Type 0) (less other : X → X → Bool) (x : X) (o : Option X) → ((a b : X) → P a → P b → less a b ≡ other a b) → P x → IfSome o P → first_of_two less x o ≡ first_of_two other x o
+two_agree : {X : Type 0} (P : X → Type 0) (less other : X → X → Bool) (x : X) (o : Option X) → ((a b : X) → P a → P b → less a b ≡ other a b) → P x → IfSome o P
+    → option_map_or (λ y. cond (less y x) y x) o x ≡ option_map_or (λ y. cond (other y x) y x) o x
 two_agree P less other x o agree h k = grind (arith, nat_tests)
 
 -- the first of a list is one of it, and there is one where the list has an element

@@ -1,9 +1,10 @@
 -- One free range more of a row: the longest and the best so far, and what the next range makes of them.
 use Rattle.range_bits.proofs.Common.{lt-ltb, common_steps, range_with_len, All-filter, filter_passes, get_or-le-sum_by, prefix_len-drop_yes, prefix_len-drop_no}
 use Rattle.range_bits.proofs.Common.{prefix_len-drop_all, cases_Bool, cases_lt, cond_both, and_from, and_parts, and_left, and_right, or_left, or_right, le-leb}
-use Rattle.range_bits.proofs.Common.{leb-true, leb-false, le-ltb, ne_eqb, nat_tests, count_none, free_from, begins_range, first_of_two, first_least, longest}
+use Rattle.range_bits.proofs.Common.{leb-true, leb-false, le-ltb, ne_eqb, nat_tests, count_none, free_from, begins_range, first_least, longest}
 use Rattle.range_bits.proofs.Common.{best, used_count, IsNextRange}
 use Rattle.std.proofs.Common.{◌≡◌, ℕ, zero, suc, ◌+◌, ◌-◌, ◌<◌, ◌≤◌, ◌==◌, ◌⊎◌, Bool, true, false, not, nat_lt, nat_le, List, ◌∷◌, ◌++◌, length, get_or, map, filter, fold, max, Option, Some, None, IfSome, cond, refl, sym, ap, ◌∙◌, inl, inr, arith, option_map, eq-eqb, ◌↔◌}
+use Rattle.std.specs.Option.{option_map_or}
 use Rattle.range_bits.proofs.RangeFacts.{fold_max, best_is_fit, longest_is_short, some_or_none}
 use Rattle.range_bits.proofs.RangeLemmas.{fits_at, longest-at, longest-le-length, free_fits, free_at, start_of, range-within, first_least-all}
 use Rattle.range_bits.specs.FreeRanges.{shorter_of}
@@ -76,7 +77,7 @@ longest_more row from start len most range is =
     }
 
 -- of two places, where the other one's measure isn't less
-stays : (f : ℕ → ℕ) (x : ℕ) (o : Option ℕ) → IfSome o (λ y. f x ≤ f y) → first_of_two (λ x y. nat_lt (f x) (f y)) x o ≡ x
+stays : (f : ℕ → ℕ) (x : ℕ) (o : Option ℕ) → IfSome o (λ y. f x ≤ f y) → option_map_or (λ y. cond (nat_lt (f y) (f x)) y x) o x ≡ x
 stays f x o h = grind (arith, nat_tests, le-ltb)
 
 -- the first place of the least measure

@@ -1,5 +1,6 @@
 -- Free ranges of a row of places, each of which is used (true) or free (false), over rows of any length.
 use Rattle.std.specs.Prelude.{ℕ, ◌+◌, ◌-◌, Bool, true, ◌==◌, ◌&&◌, ◌||◌, not, nat_lt, nat_le, List, [], ◌∷◌, ◌++◌, length, take, drop, replicate, count_by, fold, filter, map, max, Option, Some, None, if◌then◌else◌}
+use Rattle.std.specs.Option.{option_map_or}
 use Rattle.std.specs.List.{prefix_len, range_with_len, slice_index_or}
 
 -- how many free places follow each other from a place on
@@ -19,13 +20,9 @@ abbrev pub begins_range : List Bool → ℕ → Bool
 begins_range row place = not (slice_index_or row place true) && (place == 0 || slice_index_or row (place - 1) true)
 
 -- the first of those than which none is less
-abbrev pub first_of_two : {X : Type 0} → (X → X → Bool) → X → Option X → X
-first_of_two less x None = x
-first_of_two less x (Some y) = if less y x then y else x
-
 abbrev pub first_least : {X : Type 0} → (X → X → Bool) → List X → Option X
 first_least less [] = None
-first_least less (x ∷ xs) = Some (first_of_two less x (first_least less xs))
+first_least less (x ∷ xs) = Some (option_map_or (λ y. if less y x then y else x) (first_least less xs) x)
 
 -- where the shortest maximal free range of at least n places begins, the first such where several are as short
 abbrev pub best : List Bool → ℕ → Option ℕ

@@ -10,7 +10,7 @@ use Rattle.tc_model.specs.declared.board.Act.{Act}
 use Rattle.tc_model.specs.declared.board.Turn.{Turn}
 use Rattle.tc_model.specs.Run.{Rules, run}
 use Rattle.tc_model.specs.Chains.{threads_of}
-use Rattle.tc_model.specs.Rises.{Has, IsMerge}
+use Rattle.tc_model.specs.Rises.{Has}
 use Rattle.tc_model.proofs.Members.{same_some, at_longer}
 use Rattle.tc_model.proofs.Picks.{length_run}
 use Rattle.tc_model.specs.declared.board.Entry.{Entry}
@@ -24,7 +24,8 @@ use Rattle.part_lock.specs.Closes.{IsClosed}
 use Rattle.part_lock.specs.Joins.{numbers, lead_of, all_joined}
 use Rattle.part_lock.proofs.Ends.{same_lists}
 use Rattle.part_lock.proofs.Numbers.{at_seam}
-use Rattle.relay.specs.Ends.{threads_in, IsRun}
+use Rattle.merge_journal.specs.Threads.{threads_in, AreMerged}
+use Rattle.relay.specs.Ends.{IsRun}
 use Rattle.std.specs.Prelude.{◌==◌}
 use Rattle.std.proofs.lemmas.Bool.Decides.{nat_tests}
 use Rattle.relay.specs.declared.machine.Relay.{Relay}
@@ -52,9 +53,13 @@ pub map_both : {A B C : Type 0} (f : A → B) (g : B → C) (xs : List A) → ma
 map_both f g [] = refl
 map_both f g (x ∷ xs) = ap (λ (l : List _). g (f x) ∷ l) (map_both f g xs)
 
--- as many entries as acts
-pub few_of : {P L : Type 0} (most events : ℕ) (acts : List (Act P L)) (es : List Entry) → es ≡ map entry_of acts → length acts ≤ most → most ≡ events → length es ≤ events
-few_of most events acts es is few same = let n = ap length is ∙ length-map acts entry_of in omega (arith, n, few, same)
+-- as many threads as entries, and as many entries as acts
+pub many : {lists : List (List Entry)} {threads : List ℕ} (m : AreMerged lists threads) → length threads ≡ length m.entries
+many m = ap length m.are ∙ length-map m.entries (λ (e : Entry). e.thread.0)
+
+pub few_of : {P L : Type 0} {lists : List (List Entry)} {threads : List ℕ} (most events : ℕ) (acts : List (Act P L)) (m : AreMerged lists threads)
+    → m.entries ≡ map entry_of acts → length acts ≤ most → most ≡ events → length threads ≤ events
+few_of most events acts m is few same = let n = ap length is ∙ length-map acts entry_of in omega (arith, many m, n, few, same)
 
 module _ {X P L : Type 0} where
   -- the seats that were joined are as many as have a seat
@@ -87,9 +92,11 @@ module _ {X P L : Type 0} where
       (slice_get-map (λ (w : Work X P L). w.local) ws i ∙ ap (option_map (λ (w : Work X P L). w.local)) w.1) ∙ sym (subst (λ (k : ℕ). slice_get (run r order).locals k ≡ Some w.0.local) thread (seats w.0 (i, w.1))))
       (λ past. slice_get_past (map (λ (w : Work X P L). w.local) ws) i (omega arith) ∙ sym (slice_get_past (run r order).locals i (omega arith))))
 
-  pub whole : (mach : X → Rules P L) (key : Key X) (n : ℕ) (ws : List (Work X P L)) (parts : List P) (locals : List L) (entries : List (List Entry)) (es : List Entry) → length (mach key.machine).locals ≡ n → map (λ (w : Work X P L). w.thread) ws ≡ numbers n
-      → locals ≡ map (λ (w : Work X P L). w.local) ws → IsClosed mach key (all_joined (lead_of key (numbers n)) ws) parts entries → IsMerge entries es → IsRun (mach key.machine) parts locals es
-  whole mach key n ws parts locals entries es long threads locals_is closed merge = grind (arith, threads_same, locals_of)
+  pub whole : (mach : X → Rules P L) (key : Key X) (n : ℕ) (ws : List (Work X P L)) (parts : List P) (locals : List L) (entries : List (List Entry)) (order : List ℕ) → length (mach key.machine).locals ≡ n → map (λ (w : Work X P L). w.thread) ws ≡ numbers n
+      → locals ≡ map (λ (w : Work X P L). w.local) ws → IsClosed mach key (all_joined (lead_of key (numbers n)) ws) parts entries → AreMerged entries order → IsRun (mach key.machine) parts locals order
+  whole mach key n ws parts locals entries order long threads locals_is closed m =
+      let is : order ≡ threads_of closed.acts = m.are ∙ (ap threads_in (closed.merged m.entries m.merge) ∙ threads_same closed.acts) in
+      rw is (grind (arith, locals_of))
 
 -- a runner with acts left wants a lane
 pub wants_lane : (m : Relay) (l : Runner) → 0 < l.left → relay_want m l ≡ Some (lane_no (l.left % m.lanes))

@@ -95,19 +95,6 @@ fn one_turn<R: Wait>(rt: &R, alloc: Global, runner: Runner, events: u64) -> Resu
     Ok(board.turn(rt, alloc, &mut hand))
 }
 
-/// Whether the entries have the tickets from 0 on, by these threads.
-fn is_order(end: &Finish<Relay>, threads: &[u8]) -> bool {
-    if end.order.len() != threads.len() {
-        return false;
-    }
-    for (i, entry) in end.order.as_slice().iter().enumerate() {
-        if u64::from(entry.ticket) != i as u64 || entry.thread.0 != threads[i] {
-            return false;
-        }
-    }
-    true
-}
-
 /// How many acts were done at all lanes.
 fn counted(parts: &[Lane]) -> u64 {
     let mut sum: u64 = 0;
@@ -189,7 +176,6 @@ fn the_limit_ends_a_run_in_its_midst(rt: HostRuntime) -> Result<(), Fail> {
     assert_eq!(rt; end.halt, Some(Halt::Full));
     assert_eq!(rt; end.order.len(), 50);
     assert_eq!(rt; counted(end.closed.parts.as_slice()), 50);
-    assert!(rt; end.order.last().is_some_and(|entry| entry.ticket == 49));
     assert_eq!(rt; left_at(&end, 0).wrapping_add(left_at(&end, 1)), 1950);
     Ok(())
 }
@@ -210,7 +196,7 @@ fn want_of_memory_in_one_worker_ends_all(rt: HostRuntime) -> Result<(), Fail> {
     )?;
     assert_eq!(rt; end.halt, Some(Halt::Memory));
     assert!(rt; end.lasts.first().is_some_and(|last| *last == NO_MEMORY));
-    assert!(rt; is_order(&end, [0, 0].as_slice()));
+    assert_eq!(rt; end.order.as_slice(), [0, 0].as_slice());
     assert_eq!(rt; left_at(&end, 0), 3);
     assert_eq!(rt; left_at(&end, 1), 10);
     Ok(())
@@ -223,17 +209,17 @@ fn gates_waits_and_manners_order_the_acts(rt: HostRuntime) -> Result<(), Fail> {
         turns: AtomicU64::new(0),
     };
     let end = whole(race(&rt, alloc, &hold, 2, [runner(2), runner(5)].as_slice(), 100)?)?;
-    assert!(rt; is_order(&end, [1, 1, 1, 1, 1, 0, 0].as_slice()));
+    assert_eq!(rt; end.order.as_slice(), [1, 1, 1, 1, 1, 0, 0].as_slice());
 
     let mut late = runner(2);
     late.from = 3;
     let end = whole(race(&rt, alloc, &OpenGate, 1, [late, runner(3)].as_slice(), 100)?)?;
-    assert!(rt; is_order(&end, [1, 1, 1, 0, 0].as_slice()));
+    assert_eq!(rt; end.order.as_slice(), [1, 1, 1, 0, 0].as_slice());
 
     let mut shy = runner(2);
     shy.shuns = 0;
     let end = whole(race(&rt, alloc, &OpenGate, 1, [shy, runner(1)].as_slice(), 100)?)?;
-    assert!(rt; is_order(&end, [1, 0, 0].as_slice()));
+    assert_eq!(rt; end.order.as_slice(), [1, 0, 0].as_slice());
     Ok(())
 }
 

@@ -1,6 +1,5 @@
 -- What is said of a current thread's registers is enough for its next instruction, which keeps all room.
-use Rattle.std.proofs.Common.{◌≡◌, ℕ, ◌+◌, ◌-◌, ◌≤◌, Bool, true, false, is_some, eqb, List, [], ◌∷◌, length, min, refl, sym, subst, arith}
-use Rattle.std.proofs.lemmas.Bool.{cond_both}
+use Rattle.std.proofs.Common.{◌≡◌, ℕ, ◌≤◌, Bool, true, List, length, refl, arith}
 use Rattle.std.proofs.lemmas.List.{length-append, length-drop}
 use Rattle.tc_units.specs.declared.units.Addr.{Addr}
 use Rattle.tc_units.specs.Bag.{Contents}
@@ -12,7 +11,6 @@ use Rattle.rseq_core.specs.declared.regs.Regs.{Regs}
 use Rattle.rseq_core.specs.Bags.{room, appended, without_first, emptied}
 use Rattle.rseq_core.specs.Tables.{wanted, closes, cell}
 use Rattle.rseq_core.specs.Agrees.{HasLoaded, HasStored, Agrees, CanLoad, CanStore, IsAble}
-use Rattle.rseq_core.specs.Acts.{instruction}
 use Rattle.rseq_core.proofs.CellKept.{loaded_length, test_cell}
 
 -- room for all that a pop wants

@@ -7,7 +7,7 @@ use Rattle.std.proofs.lemmas.Bool.Decides.{nat_tests}
 use Rattle.std.proofs.lemmas.List.{append-nil, reverse-append, take_more, take_more_set, take-set-le, length-set, length-append, length-take, length-reverse}
 use Rattle.std.proofs.lemmas.List.Sums.{sum_by-append, sum_by-take-drop}
 use Rattle.tc_units.specs.declared.units.Addr.{Addr}
-use Rattle.cpu_slab.specs.Slots.{SlabRow, null, held, stored}
+use Rattle.cpu_slab.specs.Slots.{SlabRow, null, held}
 use Rattle.cpu_slab.specs.Sound.{IsSoundRow}
 use Rattle.rseq_core.specs.declared.sequence.Pc.{Pc}
 use Rattle.rseq_core.specs.declared.sequence.Pc.TheVariants.{Header, Test, Copy, Commit}
@@ -15,7 +15,7 @@ use Rattle.rseq_core.specs.declared.sequence.Seq.{Seq}
 use Rattle.rseq_core.specs.declared.sequence.Reply.{Reply}
 use Rattle.rseq_core.specs.declared.sequence.Reply.TheVariants.{Empty, Full, Stopped}
 use Rattle.rseq_core.specs.declared.regs.Regs.{Regs}
-use Rattle.rseq_core.specs.Tables.{Cell, goes, closes, header, counted, test, copy, commit, cell, wanted, is_pop}
+use Rattle.rseq_core.specs.Tables.{Cell, goes, closes, counted, cell, wanted, is_pop}
 use Rattle.rseq_core.specs.Agrees.{HasLoaded, HasStored, HasCopied, Agrees, IsAtRest, IsSilent, Does}
 
 -- what an instruction does to a row and registers
@@ -80,9 +80,9 @@ closes_ok : (stopped pops : Bool) (row : SlabRow) (r : Regs) (reply : Reply) →
     → Does stopped row r (closes row r reply) (Some reply) → CellOk stopped pops row r (closes row r reply)
 closes_ok stopped pops row r reply ok does = row_kept stopped pops row r (closes row r reply) ok refl refl refl refl refl refl does
 
-header_ok : (stopped pops : Bool) (row : SlabRow) (r : Regs) → IsSoundRow row → r.loaded.items ≡ [] → CellOk stopped pops row r (header stopped row r)
+header_ok : (stopped pops : Bool) (row : SlabRow) (r : Regs) → IsSoundRow row → r.loaded.items ≡ [] → CellOk stopped pops row r (cell stopped pops row r Header)
 header_ok true pops row r ok nothing = closes_ok true pops row r Stopped ok (record { row = refl; hand = refl }, refl)
-header_ok false pops row r ok nothing = row_kept false pops row r (header false row r) ok refl refl refl refl refl (refl, nothing) (record { row = refl; hand = refl })
+header_ok false pops row r ok nothing = row_kept false pops row r (cell false pops row r Header) ok refl refl refl refl refl (refl, nothing) (record { row = refl; hand = refl })
 
 counted_ok : (stopped pops : Bool) (row : SlabRow) (r : Regs) (k : ℕ) → IsSoundRow row → HasCopied pops row (record r { count = k }) 0 → CellOk stopped pops row r (counted row r k)
 counted_ok stopped pops row r k ok has =
@@ -101,17 +101,17 @@ first_stored row r top free nothing some = grind (arith, append-nil)
 below : (a b : ℕ) → a ≤ b → eqb a b ≡ false → a < b
 below a b most apart = grind (arith, nat_tests)
 
-test_ok : (stopped pops : Bool) (row : SlabRow) (r : Regs) → IsSoundRow row → pops ≡ is_pop r.seq → r.top ≡ row.top → r.loaded.items ≡ [] → CellOk stopped pops row r (test pops row r)
+test_ok : (stopped pops : Bool) (row : SlabRow) (r : Regs) → IsSoundRow row → pops ≡ is_pop r.seq → r.top ≡ row.top → r.loaded.items ≡ [] → CellOk stopped pops row r (cell stopped pops row r Test)
 test_ok stopped pops row r ok way top nothing = grind (arith, nat_tests, cond_both, closes_ok, counted_ok, first_loaded, first_stored, below, wanted_some)
 
-pub copy_ok : (stopped pops : Bool) (row : SlabRow) (r : Regs) (done : ℕ) → IsSoundRow row → HasCopied pops row r done → done < r.count → CellOk stopped pops row r (copy pops row r done)
+pub copy_ok : (stopped pops : Bool) (row : SlabRow) (r : Regs) (done : ℕ) → IsSoundRow row → HasCopied pops row r done → done < r.count → CellOk stopped pops row r (cell stopped pops row r (Copy done))
 copy_ok stopped pops row r done ok has more = grind (arith, load_at, next_agrees, row_kept, length-set, store_at, take-set-le)
 
 pub loaded_length : (slots loaded : List Addr) (top n : ℕ) → n ≤ top → top ≤ length slots → take (top - n) slots ++ reverse loaded ≡ take top slots → length loaded ≡ n
 loaded_length slots loaded top n low within is =
     omega (arith, ap length is, length-append (take (top - n) slots) (reverse loaded), length-reverse loaded, length-take (top - n) slots, length-take top slots)
 
-pub commit_ok : (stopped pops : Bool) (row : SlabRow) (r : Regs) → IsSoundRow row → HasCopied pops row r r.count → CellOk stopped pops row r (commit pops row r)
+pub commit_ok : (stopped pops : Bool) (row : SlabRow) (r : Regs) → IsSoundRow row → HasCopied pops row r r.count → CellOk stopped pops row r (cell stopped pops row r Commit)
 commit_ok stopped pops row r ok has = grind (arith, loaded_length)
 
 pub cell_ok : (stopped pops : Bool) (row : SlabRow) (r : Regs) (pc : Pc) → IsSoundRow row

@@ -1,5 +1,5 @@
 -- An instruction stores at most one place.
-use Rattle.std.proofs.Common.{◌≡◌, ℕ, ◌+◌, ◌-◌, ◌<◌, Bool, true, false, is_some, length, refl, sym, ap, ◌∙◌, subst, inl, inr, ◌⊎◌}
+use Rattle.std.proofs.Common.{◌≡◌, ℕ, ◌+◌, ◌<◌, Bool, true, false, is_some, length, get_or, refl, sym, ap, ◌∙◌, subst, ◌⊎◌}
 use Rattle.std.proofs.lemmas.Bool.{cases_eq}
 use Rattle.std.proofs.lemmas.List.{get_or-set_other}
 use Rattle.std.proofs.Common.{arith}
@@ -9,7 +9,7 @@ use Rattle.rseq_core.specs.declared.sequence.Pc.{Pc}
 use Rattle.rseq_core.specs.declared.sequence.Pc.TheVariants.{Begin, Header, Test, Copy, Commit}
 use Rattle.rseq_core.specs.declared.regs.Regs.{Regs}
 use Rattle.rseq_core.specs.declared.cpu_part.CpuPart.{CpuPart}
-use Rattle.rseq_core.specs.Tables.{is_pop, object, cell}
+use Rattle.rseq_core.specs.Tables.{is_pop, cell}
 use Rattle.rseq_core.proofs.CellKept.{test_cell}
 use Rattle.rseq_core.specs.Acts.{DiffersAtMostOnce, instruction, with_cell}
 
@@ -26,7 +26,7 @@ cell_stores true pops row r Header = same_row row
 cell_stores false pops row r Header = same_row row
 cell_stores stopped pops row r Test = test_cell (λ c. StoresOnce row c.row) stopped pops row r (same_row row) (same_row row) (λ n. same_row row)
 cell_stores stopped true row r (Copy done) = same_row row
-cell_stores stopped false row r (Copy done) = (r.top + done, λ m apart. get_or-set_other row.slots (r.top + done) m (object r.hand.items done) null apart)
+cell_stores stopped false row r (Copy done) = (r.top + done, λ m apart. get_or-set_other row.slots (r.top + done) m (get_or r.hand.items done null) null apart)
 cell_stores stopped true row r Commit = same_row row
 cell_stores stopped false row r Commit = same_row row
 

@@ -7,7 +7,7 @@ use Rattle.cpu_slab.specs.Sound.{IsSoundRow}
 use Rattle.rseq_core.specs.declared.sequence.Pc.TheVariants.{Test, Copy, Commit}
 use Rattle.rseq_core.specs.declared.sequence.Reply.TheVariants.{Popped, Pushed}
 use Rattle.rseq_core.specs.declared.regs.Regs.{Regs}
-use Rattle.rseq_core.specs.Tables.{Cell, is_pop, wanted, counted, copy_or_commit, copy, commit}
+use Rattle.rseq_core.specs.Tables.{Cell, is_pop, wanted, counted, copy_or_commit, cell}
 use Rattle.rseq_core.specs.Agrees.{HasCopied, Agrees, IsPop, IsPush}
 use Rattle.rseq_core.specs.Alone.{alone, PopsWhole, PushesWhole}
 use Rattle.rseq_core.proofs.CellKept.{CellOk, copied_at, first_loaded, first_stored, wanted_some, copy_ok, commit_ok}
@@ -32,7 +32,7 @@ pub record IsQuiet (row : SlabRow) (r : Regs) (row' : SlabRow) (r' : Regs) : Typ
 ends_after : (pops : Bool) (row : SlabRow) (r : Regs) (row' : SlabRow) (r' : Regs) (c : Cell) → IsQuiet row r row' r' → Ends pops row' r' c → Ends pops row r c
 ends_after pops row r row' r' c quiet ends = grind (arith)
 
-commit_ends : (pops : Bool) (row : SlabRow) (r : Regs) → IsSoundRow row → HasCopied pops row r r.count → Ends pops row r (commit pops row r)
+commit_ends : (pops : Bool) (row : SlabRow) (r : Regs) → IsSoundRow row → HasCopied pops row r r.count → Ends pops row r (cell false pops row r Commit)
 commit_ends pops row r ok has = grind (arith, commit_ok)
 
 has_next : (pops : Bool) (row : SlabRow) (r : Regs) (n : ℕ) → n ≤ r.count → (b : Bool) → ltb n r.count ≡ b → Agrees pops row r (cond b (Copy n) Commit) → HasCopied pops row r n
@@ -49,14 +49,14 @@ copies_end : (m : ℕ) (pops : Bool) (row : SlabRow) (r : Regs) (d : ℕ) → Is
 copies_end zero pops row r d ok has left = grind (arith, nat_tests, copied_low, commit_ends)
 copies_end (suc m) true row r d ok has left =
     let more : d < r.count = omega arith in
-    let c : Cell = copy true row r d in
+    let c : Cell = cell false true row r (Copy d) in
     let next : CellOk false true row r c = copy_ok false true row r d ok has more in
     let has' : HasCopied true c.row c.regs (d + 1) = has_next true c.row c.regs (d + 1) (omega arith) (ltb (d + 1) r.count) refl next.agrees in
     let quiet : IsQuiet row r c.row c.regs = record { objects = refl; top = refl; cap = refl; seq = refl; hand = refl } in
     subst (λ b. Ends true row r (alone (suc m) false true row r (cond b (Copy d) Commit))) (sym (lt-ltb d r.count more)) (ends_after true row r c.row c.regs (alone m false true c.row c.regs c.regs.pc) quiet (copies_end m true c.row c.regs (d + 1) next.row has' (omega arith)))
 copies_end (suc m) false row r d ok has left =
     let more : d < r.count = omega arith in
-    let c : Cell = copy false row r d in
+    let c : Cell = cell false false row r (Copy d) in
     let next : CellOk false false row r c = copy_ok false false row r d ok has more in
     let has' : HasCopied false c.row c.regs (d + 1) = has_next false c.row c.regs (d + 1) (omega arith) (ltb (d + 1) r.count) refl next.agrees in
     let quiet : IsQuiet row r c.row c.regs = record { objects = next.does.row; top = refl; cap = refl; seq = refl; hand = refl } in

@@ -32,10 +32,6 @@ wanted (PopBatch n) hand = n
 wanted Push hand = min 1 (length hand)
 wanted PushBatch hand = length hand
 
--- object j of a hand
-abbrev pub object : List Addr → ℕ → Addr
-object hand j = slice_index_or hand j null
-
 -- the sequence goes on at this instruction
 abbrev pub goes : SlabRow → Regs → Pc → Cell
 goes row r pc = record { row = row; regs = record r { pc = pc; ran = r.ran + 1 }; reply = None }
@@ -52,30 +48,15 @@ copy_or_commit done count = if nat_lt done count then Copy done else Commit
 abbrev pub counted : SlabRow → Regs → ℕ → Cell
 counted row r k = goes row (record r { count = k }) (copy_or_commit 0 k)
 
--- Header, of a CPU that is stopped or not
-abbrev pub header : Bool → SlabRow → Regs → Cell
-header true row r = closes row r Stopped
-header false row r = goes row (record r { top = row.top }) Test
-
--- Test, of a pop and of a push
-abbrev pub test : Bool → SlabRow → Regs → Cell
-test true row r = if r.top == 0 then closes row r Empty else counted row r (min (wanted r.seq r.hand.items) r.top)
-test false row r = if r.top == row.cap then closes row r Full else counted row r (min (wanted r.seq r.hand.items) (row.cap - r.top))
-
--- Copy behind so many, of a pop and of a push
-abbrev pub copy : Bool → SlabRow → Regs → ℕ → Cell
-copy true row r done = goes row (record r { loaded = appended r.loaded (slot_of row (r.top - (done + 1)) ∷ []) }) (copy_or_commit (done + 1) r.count)
-copy false row r done = goes (stored row (r.top + done) (object r.hand.items done)) r (copy_or_commit (done + 1) r.count)
-
--- Commit, of a pop and of a push
-abbrev pub commit : Bool → SlabRow → Regs → Cell
-commit true row r = closes (record row { top = r.top - r.count }) (record r { hand = appended r.hand r.loaded.items }) Popped
-commit false row r = closes (record row { top = r.top + r.count }) (record r { hand = without_first r.count r.hand }) (Pushed r.count)
-
--- the table
+-- The table, by whether the CPU is stopped, whether the sequence pops, and the instruction.
 abbrev pub cell : Bool → Bool → SlabRow → Regs → Pc → Cell
 cell stopped pops row r Begin = goes row r Header
-cell stopped pops row r Header = header stopped row r
-cell stopped pops row r Test = test pops row r
-cell stopped pops row r (Copy done) = copy pops row r done
-cell stopped pops row r Commit = commit pops row r
+cell true pops row r Header = closes row r Stopped
+cell false pops row r Header = goes row (record r { top = row.top }) Test
+cell stopped true row r Test = if r.top == 0 then closes row r Empty else counted row r (min (wanted r.seq r.hand.items) r.top)
+cell stopped false row r Test = if r.top == row.cap then closes row r Full else counted row r (min (wanted r.seq r.hand.items) (row.cap - r.top))
+cell stopped true row r (Copy done) =
+    goes row (record r { loaded = appended r.loaded (slot_of row (r.top - (done + 1)) ∷ []) }) (copy_or_commit (done + 1) r.count)
+cell stopped false row r (Copy done) = goes (stored row (r.top + done) (slice_index_or r.hand.items done null)) r (copy_or_commit (done + 1) r.count)
+cell stopped true row r Commit = closes (record row { top = r.top - r.count }) (record r { hand = appended r.hand r.loaded.items }) Popped
+cell stopped false row r Commit = closes (record row { top = r.top + r.count }) (record r { hand = without_first r.count r.hand }) (Pushed r.count)

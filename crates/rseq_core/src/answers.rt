@@ -27,7 +27,7 @@ pub enum Grew {
 
 /// How a thread comes to a CPU where it has something to do.
 #[derive(Clone, Copy, Debug, PartialEq, Eq)]
-pub(crate) enum Arrival {
+pub enum Arrival {
     /// Another thread ran there, or none: the thread switched in.
     In,
     /// Its epoch was not the CPU's: it goes back to the begin.

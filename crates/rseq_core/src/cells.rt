@@ -1,9 +1,9 @@
 //! One instruction of a sequence, on the slab and the registers.
-ghost use Rattle.std.specs.Prelude.{◌≡◌, ◌+◌, ◌-◌, ◌^◌, ◌<◌, ◌≤◌, true, false, length, Some, None};
+ghost use Rattle.std.specs.Prelude.{◌≡◌, ◌+◌, ◌-◌, ◌^◌, ◌<◌, ◌≤◌, Bool, true, false, length, Some, None};
 ghost use Rattle.cpu_slab.specs.Slots.{row_at, with_row};
-ghost use Rattle.rseq_core.specs.Tables.{is_pop, copy_or_commit, header, test, copy, commit, cell};
+ghost use Rattle.rseq_core.specs.Tables.{is_pop, copy_or_commit, cell};
 ghost use Rattle.rseq_core.specs.Agrees.{IsAble};
-ghost use Rattle.rseq_core.specs.declared.sequence.Pc.TheVariants.{Test, Copy, Commit};
+ghost use Rattle.rseq_core.specs.declared.sequence.Pc.TheVariants.{Header, Test, Copy, Commit};
 
 use crate::bags;
 use crate::regs::Regs;
@@ -14,8 +14,8 @@ use cpu_slab::Slab;
 fn header(stopped: bool, slab: &Slab, regs: &mut Regs) -> Option<Reply>
     requires class { regs.old.class.0 < length slab.now.rows }
     requires ran { regs.old.ran < 2 ^ 32 - 1 }
-    ensures regs { regs.new ≡ (header stopped (row_at slab.now regs.old.class.0) regs.old).regs }
-    ensures reply { result ≡ (header stopped (row_at slab.now regs.old.class.0) regs.old).reply }
+    ensures regs { regs.new ≡ (cell stopped (is_pop regs.old.seq) (row_at slab.now regs.old.class.0) regs.old Header).regs }
+    ensures reply { result ≡ (cell stopped (is_pop regs.old.seq) (row_at slab.now regs.old.class.0) regs.old Header).reply }
 {
     if stopped {
         regs.close();
@@ -44,8 +44,9 @@ fn test(slab: &Slab, regs: &mut Regs) -> Option<Reply>
     requires class { regs.old.class.0 < length slab.now.rows }
     requires ran { regs.old.ran < 2 ^ 32 - 1 }
     requires top { regs.old.top ≡ (row_at slab.now regs.old.class.0).top }
-    ensures regs { regs.new ≡ (test (is_pop regs.old.seq) (row_at slab.now regs.old.class.0) regs.old).regs }
-    ensures reply { result ≡ (test (is_pop regs.old.seq) (row_at slab.now regs.old.class.0) regs.old).reply }
+    requires pc { regs.old.pc ≡ Test }
+    ensures regs { (stopped : Bool) → regs.new ≡ (cell stopped (is_pop regs.old.seq) (row_at slab.now regs.old.class.0) regs.old regs.old.pc).regs }
+    ensures reply { (stopped : Bool) → result ≡ (cell stopped (is_pop regs.old.seq) (row_at slab.now regs.old.class.0) regs.old regs.old.pc).reply }
 {
     if regs.is_pop() {
         if regs.top == 0 {
@@ -85,7 +86,7 @@ fn load(slab: &Slab, regs: &mut Regs, done: u32)
     requires class { regs.old.class.0 < length slab.now.rows }
     requires ran { regs.old.ran < 2 ^ 32 - 1 }
     requires able { IsAble true (row_at slab.now regs.old.class.0) regs.old (Copy done) }
-    ensures { regs.new ≡ (copy true (row_at slab.now regs.old.class.0) regs.old done).regs }
+    ensures { regs.new ≡ (cell false true (row_at slab.now regs.old.class.0) regs.old (Copy done)).regs }
 {
     let _cap = slab.cap(regs.class);
     let object = slab.slot(regs.class, regs.top - (done + 1));
@@ -98,8 +99,8 @@ fn store(slab: &mut Slab, regs: &mut Regs, done: u32)
     requires class { regs.old.class.0 < length slab.old.rows }
     requires ran { regs.old.ran < 2 ^ 32 - 1 }
     requires able { IsAble false (row_at slab.old regs.old.class.0) regs.old (Copy done) }
-    ensures slab { slab.new ≡ with_row slab.old regs.old.class.0 (copy false (row_at slab.old regs.old.class.0) regs.old done).row }
-    ensures regs { regs.new ≡ (copy false (row_at slab.old regs.old.class.0) regs.old done).regs }
+    ensures slab { slab.new ≡ with_row slab.old regs.old.class.0 (cell false false (row_at slab.old regs.old.class.0) regs.old (Copy done)).row }
+    ensures regs { regs.new ≡ (cell false false (row_at slab.old regs.old.class.0) regs.old (Copy done)).regs }
 {
     let _cap = slab.cap(regs.class);
     let object = regs.hand.as_slice()[done as usize];
@@ -112,9 +113,9 @@ fn commit_pop(slab: &mut Slab, regs: &mut Regs) -> Reply
     requires class { regs.old.class.0 < length slab.old.rows }
     requires ran { regs.old.ran < 2 ^ 32 - 1 }
     requires able { IsAble true (row_at slab.old regs.old.class.0) regs.old Commit }
-    ensures slab { slab.new ≡ with_row slab.old regs.old.class.0 (commit true (row_at slab.old regs.old.class.0) regs.old).row }
-    ensures regs { regs.new ≡ (commit true (row_at slab.old regs.old.class.0) regs.old).regs }
-    ensures reply { Some result ≡ (commit true (row_at slab.old regs.old.class.0) regs.old).reply }
+    ensures slab { slab.new ≡ with_row slab.old regs.old.class.0 (cell false true (row_at slab.old regs.old.class.0) regs.old Commit).row }
+    ensures regs { regs.new ≡ (cell false true (row_at slab.old regs.old.class.0) regs.old Commit).regs }
+    ensures reply { Some result ≡ (cell false true (row_at slab.old regs.old.class.0) regs.old Commit).reply }
 {
     let _cap = slab.cap(regs.class);
     bags::append(&mut regs.hand, regs.loaded.as_slice());
@@ -128,9 +129,9 @@ fn commit_push(slab: &mut Slab, regs: &mut Regs) -> Reply
     requires class { regs.old.class.0 < length slab.old.rows }
     requires ran { regs.old.ran < 2 ^ 32 - 1 }
     requires able { IsAble false (row_at slab.old regs.old.class.0) regs.old Commit }
-    ensures slab { slab.new ≡ with_row slab.old regs.old.class.0 (commit false (row_at slab.old regs.old.class.0) regs.old).row }
-    ensures regs { regs.new ≡ (commit false (row_at slab.old regs.old.class.0) regs.old).regs }
-    ensures reply { Some result ≡ (commit false (row_at slab.old regs.old.class.0) regs.old).reply }
+    ensures slab { slab.new ≡ with_row slab.old regs.old.class.0 (cell false false (row_at slab.old regs.old.class.0) regs.old Commit).row }
+    ensures regs { regs.new ≡ (cell false false (row_at slab.old regs.old.class.0) regs.old Commit).regs }
+    ensures reply { Some result ≡ (cell false false (row_at slab.old regs.old.class.0) regs.old Commit).reply }
 {
     let count = regs.count;
     let _cap = slab.cap(regs.class);

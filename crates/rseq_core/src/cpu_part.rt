@@ -23,7 +23,7 @@ pub struct CpuPart {
 }
 
 impl CpuPart {
-    ghost use Rattle.rseq_core.specs.Acts.{runs, entered};
+    ghost use Rattle.rseq_core.specs.Acts.{runs};
 
     /// A CPU at which nobody runs and nobody stands as stopper.
     pub fn new(slab: Slab) -> Self
@@ -53,7 +53,7 @@ impl CpuPart {
     /// Switches a thread in, and tells the new epoch.
     pub(crate) fn enter(&mut self, thread: ThreadNo) -> u64
         requires { self.old.epoch < 2 ^ 64 - 1 }
-        ensures entered { self.new ≡ entered self.old thread }
+        ensures entered { self.new ≡ record self.old { running = Some thread; epoch = self.old.epoch + 1; is_open = true; ran = 0 } }
         ensures epoch { result ≡ self.old.epoch + 1 }
     {
         self.running = Some(thread);

@@ -13,7 +13,7 @@ mod regs;
 mod sequence;
 
 pub use acts::{grow_here, instruct, leave};
-pub use answers::{Grew, Instructed};
+pub use answers::{Arrival, Grew, Instructed};
 pub use cpu_part::CpuPart;
 pub use laws::sequences_are_whole;
 pub use regs::{HAND_ROOM, LOADED_ROOM, Regs};

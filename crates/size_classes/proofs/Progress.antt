@@ -1,6 +1,7 @@
 -- What a reader of a text has yet to give, and what a table is read as so far.
 use Rattle.std.proofs.Common.{◌≡◌, ℕ, ◌+◌, ◌-◌, ◌<◌, ◌≤◌, zero, suc, Bool, true, false, cond, List, [], ◌∷◌, ◌++◌, length, None, Some, Ok, Err, Bor, refl, ap, ◌∙◌, arith}
 use Rattle.std.specs.Prelude.{Option, Result}
+use Rattle.std.specs.Result.{result_map_both}
 use Rattle.std.proofs.lemmas.List.{length_push}
 use Rattle.std.proofs.lemmas.Bool.Decides.{nat_tests}
 use Rattle.csv.specs.declared.parser.State.{State}
@@ -17,7 +18,7 @@ use Rattle.size_classes.specs.declared.fault.TableFault.TheVariants.{BadRow}
 use Rattle.size_classes.specs.declared.fault.RowWhy.{RowWhy}
 use Rattle.size_classes.specs.declared.fault.RowWhy.TheVariants as why
 use Rattle.size_classes.specs.Rows.{IsRow, AreRows}
-use Rattle.size_classes.specs.Table.{table_of, rows_from, with_row, check_record}
+use Rattle.size_classes.specs.Table.{table_of, rows_from, check_record}
 use Rattle.size_classes.proofs.Sizes.{last_size, rows_push, last_push}
 
 -- a step that ends a record leaves a state in which a text may end
@@ -116,20 +117,20 @@ unread_start rdr text source state config plain loose ready =
 -- rows and then those that a reading gives, or its fault
 abbrev with_rows : List ClassRow → Result (List ClassRow) TableFault → Result (List ClassRow) TableFault
 with_rows [] read = read
-with_rows (row ∷ rows) read = with_row row (with_rows rows read)
+with_rows (row ∷ rows) read = result_map_both (λ more. row ∷ more) (λ fault. fault) (with_rows rows read)
 
 with_rows_push : (rows : List ClassRow) (row : ClassRow) (read : Result (List ClassRow) TableFault)
-    → with_rows rows (with_row row read) ≡ with_rows (rows ++ row ∷ []) read
+    → with_rows rows (with_rows (row ∷ []) read) ≡ with_rows (rows ++ row ∷ []) read
 with_rows_push [] row read = refl
-with_rows_push (first ∷ rows) row read = ap (with_row first) (with_rows_push rows row read)
+with_rows_push (first ∷ rows) row read = ap (with_rows (first ∷ [])) (with_rows_push rows row read)
 
 with_rows_fault : (rows : List ClassRow) (fault : TableFault) → with_rows rows (Err fault) ≡ Err fault
 with_rows_fault [] fault = refl
-with_rows_fault (first ∷ rows) fault = ap (with_row first) (with_rows_fault rows fault)
+with_rows_fault (first ∷ rows) fault = ap (with_rows (first ∷ [])) (with_rows_fault rows fault)
 
 with_rows_end : (rows : List ClassRow) → with_rows rows (Ok []) ≡ Ok rows
 with_rows_end [] = refl
-with_rows_end (first ∷ rows) = ap (with_row first) (with_rows_end rows)
+with_rows_end (first ∷ rows) = ap (with_rows (first ∷ [])) (with_rows_end rows)
 
 -- a text has been read as far as these rows, of which the last has this size
 pub record Going (bytes : List ℕ) (rdr : Reader (Bor (List ℕ))) (rows : List ClassRow) (above : ℕ) : Type 0 where

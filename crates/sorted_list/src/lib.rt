@@ -3,10 +3,9 @@
 
 mod key;
 mod list;
-mod steps;
 #[cfg(test)]
 mod tests;
 
 pub use key::SortKey;
 pub use list::SortedList;
-pub use steps::Steps;
+pub use tc_units::Steps;

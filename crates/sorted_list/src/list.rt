@@ -3,10 +3,10 @@ ghost use Rattle.std.specs.List.{slice_index_or};
 ghost use Rattle.std.specs.Prelude.{◌≡◌, ℕ, ◌+◌, ◌-◌, ◌*◌, ◌^◌, ◌<◌, ◌≤◌, ◌↔◌, true, false, None, [], ◌∷◌, length, slice_get, All, Contains, IsPermutation, IsTrue, IfOk, IfSome, insert, remove, nat_le, if◌then◌else◌};
 
 use crate::key::SortKey;
-use crate::steps::Steps;
 use std::alloc::{AllocError, Global};
 use std::marker::{Brand, Model};
 use std::sync::ledger::{Blank, Ledger};
+use tc_units::Steps;
 
 /// The most keys of a list, so that a slot is numbered by a `u16`.
 const MOST_KEYS: usize = 65_536;

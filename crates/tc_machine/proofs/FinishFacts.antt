@@ -15,7 +15,7 @@ use Rattle.tc_units.specs.declared.spans.Run.{Run}
 use Rattle.tc_model.specs.declared.answers.CallLine.{CallLine}
 use Rattle.tc_model.specs.Calls.{calls_from, decided_by}
 use Rattle.tc_model.specs.Replays.{HaveEnded}
-use Rattle.tc_model.specs.Blocks.{live_bytes, IsBlockRun}
+use Rattle.tc_model.specs.Blocks.{IsBlockRun}
 use Rattle.tc_model.specs.Input.{Asked}
 use Rattle.tc_model.specs.Run.{Rules, World, world_of, start, run}
 use Rattle.tc_model.specs.Steps.{moving}
@@ -36,7 +36,7 @@ use Rattle.alloc_rules.proofs.Numbers.{get_heap}
 use Rattle.alloc_rules.proofs.Orders.{order_is}
 use Rattle.tc_machine.specs.declared.standing.Standing.{Standing as Kept}
 use Rattle.tc_machine.specs.Standing.{AreStanding}
-use Rattle.tc_machine.specs.Finish.{finished_in, totals_of, heap_in, heap_place}
+use Rattle.tc_machine.specs.Finish.{finished_in, totals_of, heap_in}
 
 -- The picks of an order are of threads that there are.
 pub record HasThreads {P L : Type 0} (n : ℕ) (w : World P L) (order : List ℕ) : Type 0 where
@@ -73,16 +73,16 @@ module _ {P V R : Type 0} (r : FrontRules P V R) (about : R → About) (Holds : 
     pub holds : HoldsAfter r about Holds asked order
     pub parts_are : parts ≡ parts_of r.split holds.parts
     pub locals_are : locals ≡ holds.locals
-    pub heap_at : slice_get parts (heap_place r) ≡ Some (part.Heap holds.parts.heap)
+    pub heap_at : slice_get parts (r.split + length r.calls.rows) ≡ Some (part.Heap holds.parts.heap)
     pub threads : All (λ t. t < length locals) order
 
 -- the number of the heap
-pub place_is : {P V R : Type 0} (r : FrontRules P V R) {rows : List ClassRow} {place : ℕ} → r.calls.rows ≡ rows → place ≡ r.split + length rows → place ≡ heap_place r
+pub place_is : {P V R : Type 0} (r : FrontRules P V R) {rows : List ClassRow} {place : ℕ} → r.calls.rows ≡ rows → place ≡ r.split + length rows → place ≡ r.split + length r.calls.rows
 place_is r same is = is ∙ ap (λ rows. r.split + length rows) (sym same)
 
 -- the heap is the part behind the shards
 heap_of : {P V R : Type 0} {r : FrontRules P V R} {about : R → About} {Holds : ℕ → List P → List (Standing V R) → Type 0} {asked : Asked} {order : List ℕ}
-    → (h : HoldsAfter r about Holds asked order) → r.split ≤ length r.parts → slice_get (parts_of r.split h.parts) (heap_place r) ≡ Some (part.Heap h.parts.heap)
+    → (h : HoldsAfter r about Holds asked order) → r.split ≤ length r.parts → slice_get (parts_of r.split h.parts) (r.split + length r.calls.rows) ≡ Some (part.Heap h.parts.heap)
 heap_of {r} h within =
     ap (λ n. slice_get (parts_of r.split h.parts) (r.split + n)) (sym h.counts.shards) ∙ get_heap r.split h.parts (omega (arith, within, h.counts.fronts))
 
@@ -99,7 +99,7 @@ module _ {P V R : Type 0} {r : FrontRules P V R} {about : R → About} {Holds : 
         holds = h;
         parts_are = parts_are;
         locals_are = ap (λ (w : World (Part P) (Local V R)). w.locals) same;
-        heap_at = ap (λ ps. slice_get ps (heap_place r)) parts_are ∙ heap_of h within;
+        heap_at = ap (λ ps. slice_get ps (r.split + length r.calls.rows)) parts_are ∙ heap_of h within;
         threads = subst (λ n. All (λ u. u < n) order) (sym count) t.below;
       }
 
@@ -131,7 +131,7 @@ module _ {P V R : Type 0} {r : FrontRules P V R} {about : R → About} {Holds : 
           others = λ t high. no_lines h.locals t (slice_get_past h.locals t (let n = h.counts.threads in omega (arith, n, high))) [] order;
         })
 
-    module _ {heap : Heap} (there : slice_get parts (heap_place r) ≡ Some (part.Heap heap)) where
+    module _ {heap : Heap} (there : slice_get parts (r.split + length r.calls.rows) ≡ Some (part.Heap heap)) where
       heap_is : heap ≡ told.holds.parts.heap
       heap_is = let e : Some (part.Heap heap) ≡ Some (part.Heap told.holds.parts.heap) = sym there ∙ told.heap_at in cc
 

@@ -1,7 +1,6 @@
 -- What a run has to tell.
 use Rattle.std.specs.Prelude.{ℕ, ◌+◌, List, length, map}
 use Rattle.std.specs.List.{range_with_len, slice_index_or}
-use Rattle.tc_model.specs.declared.answers.CallLine.{CallLine}
 use Rattle.tc_model.specs.declared.answers.Finished.{Finished}
 use Rattle.tc_model.specs.Blocks.{live_count, live_bytes}
 use Rattle.tc_model.specs.Input.{Asked}
@@ -15,10 +14,6 @@ use Rattle.alloc_rules.specs.Machine.{heap_config, rules}
 use Rattle.alloc_rules.specs.Law.{calls}
 use Rattle.tc_machine.specs.declared.totals.Totals.{Totals}
 
--- these calls, in the order in which they were decided, the blocks that they leave, and the pages of the heap
-abbrev pub finished : List CallLine → Heap → Finished
-finished lines heap = record { calls = lines; live = live_count lines; live_bytes = live_bytes lines; used = used_pages heap; resident = backed_pages heap; rows = map (row_of heap) (range_with_len 1 heap.config.huge) }
-
 -- what is told of a run beside its calls, of which the number is
 abbrev pub totals_of : Finished → Totals
 totals_of f = record { calls = length f.calls; live = f.live; live_bytes = f.live_bytes; used = f.used; resident = f.resident; rows = f.rows }
@@ -28,13 +23,20 @@ abbrev pub heap_by : {P : Type 0} → Heap → Part P → Heap
 heap_by other (part.Heap heap) = heap
 heap_by other part = other
 
-module _ {P V R : Type 0} (r : FrontRules P V R) where
-  abbrev pub heap_place : ℕ
-  heap_place = r.split + length r.calls.rows
+abbrev pub heap_in : {P V R : Type 0} → FrontRules P V R → Asked → List (Part P) → Heap
+heap_in r asked parts = let first = opened (heap_config asked.config) in heap_by first (slice_index_or parts (r.split + length r.calls.rows) (part.Heap first))
 
-  abbrev pub heap_in : Asked → List (Part P) → Heap
-  heap_in asked parts = let first = opened (heap_config asked.config) in heap_by first (slice_index_or parts heap_place (part.Heap first))
-
--- after the picks of an order
+-- after the picks of an order: the calls in the order in which they were decided, the blocks that they leave, and the pages of the heap
 abbrev pub finished_in : {P V R : Type 0} → FrontRules P V R → (R → About) → Asked → List ℕ → Finished
-finished_in r about asked order = let w = run (rules r about asked) order in finished (calls w.locals order) (heap_in r asked w.parts)
+finished_in r about asked order =
+    let w = run (rules r about asked) order in
+    let lines = calls w.locals order in
+    let heap = heap_in r asked w.parts in
+    record {
+      calls = lines;
+      live = live_count lines;
+      live_bytes = live_bytes lines;
+      used = used_pages heap;
+      resident = backed_pages heap;
+      rows = map (row_of heap) (range_with_len 1 heap.config.huge);
+    }

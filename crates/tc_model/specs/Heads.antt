@@ -19,22 +19,19 @@ pub record HeadRule : Type 0 where
   pub most : ℕ
   pub default : ℕ
 
-abbrev pub called : List ℕ → ℕ → ℕ → ℕ → HeadRule
-called name least most default = record { name = name; least = least; most = most; default = default }
-
 abbrev pub head_rule : Head → HeadRule
-head_rule Cpus = called (codes "cpus") 1 MOST_CPUS 1
-head_rule Threads = called (codes "threads") 1 MOST_THREADS 1
-head_rule Huge = called (codes "huge") 1 MOST_HUGE 64
-head_rule Cache = called (codes "cache") 0 MOST_HUGE 8
-head_rule Region = called (codes "region") 2 512 512
-head_rule Slack = called (codes "slack") 0 1048576 8192
-head_rule Transfer = called (codes "transfer") 0 4096 64
-head_rule Slab = called (codes "slab") 1 2048 2048
-head_rule Percpu = called (codes "percpu") 0 268435456 1572864
-head_rule Events = called (codes "events") 1 MOST_PICKS MOST_PICKS
-head_rule Window = called (codes "window") 0 65536 0
-head_rule Domains = called (codes "domains") 0 MOST_CPUS 0
+head_rule Cpus = record { name = codes "cpus"; least = 1; most = MOST_CPUS; default = 1 }
+head_rule Threads = record { name = codes "threads"; least = 1; most = MOST_THREADS; default = 1 }
+head_rule Huge = record { name = codes "huge"; least = 1; most = MOST_HUGE; default = 64 }
+head_rule Cache = record { name = codes "cache"; least = 0; most = MOST_HUGE; default = 8 }
+head_rule Region = record { name = codes "region"; least = 2; most = 512; default = 512 }
+head_rule Slack = record { name = codes "slack"; least = 0; most = 1048576; default = 8192 }
+head_rule Transfer = record { name = codes "transfer"; least = 0; most = 4096; default = 64 }
+head_rule Slab = record { name = codes "slab"; least = 1; most = 2048; default = 2048 }
+head_rule Percpu = record { name = codes "percpu"; least = 0; most = 268435456; default = 1572864 }
+head_rule Events = record { name = codes "events"; least = 1; most = MOST_PICKS; default = MOST_PICKS }
+head_rule Window = record { name = codes "window"; least = 0; most = 65536; default = 0 }
+head_rule Domains = record { name = codes "domains"; least = 0; most = MOST_CPUS; default = 0 }
 
 -- the head of a name
 abbrev pub head_of : List ℕ → Option Head
@@ -74,23 +71,19 @@ with_limit Events value config = record config { events = value }
 with_limit Window value config = record config { window = value }
 with_limit Domains value config = record config { domains = value }
 
--- the limits that heads set, where each sets what is told of it
-abbrev pub config_of : (Head → ℕ) → Config
-config_of limit = record {
-  cpus = limit Cpus;
-  threads = limit Threads;
-  huge = limit Huge;
-  cache = limit Cache;
-  region = limit Region;
-  slack = limit Slack;
-  transfer = limit Transfer;
-  slab = limit Slab;
-  percpu = limit Percpu;
-  events = limit Events;
-  window = limit Window;
-  domains = limit Domains;
-}
-
 -- the limits of a trace without heads
 abbrev pub default_config : Config
-default_config = config_of (λ head. (head_rule head).default)
+default_config = let default = λ (head : Head). (head_rule head).default in record {
+  cpus = default Cpus;
+  threads = default Threads;
+  huge = default Huge;
+  cache = default Cache;
+  region = default Region;
+  slack = default Slack;
+  transfer = default Transfer;
+  slab = default Slab;
+  percpu = default Percpu;
+  events = default Events;
+  window = default Window;
+  domains = default Domains;
+}

@@ -1,5 +1,5 @@
 -- What an audit comes to, from what its steps come to.
-use Rattle.std.proofs.Common.{◌≡◌, ℕ, List, [], length, Option, Some, None, Result, Ok, Err, refl, sym, ap, subst, ◌∙◌, inl, inr}
+use Rattle.std.proofs.Common.{◌≡◌, ℕ, List, [], length, Option, Some, None, Result, Ok, Err, refl, sym, ap, subst, ◌∙◌}
 use Rattle.std.specs.Prelude.{IsErrAnd, IfOk, Vec}
 use Rattle.std.specs.declared.alloc.AllocError.{AllocError}
 use Rattle.std.specs.Global.{Global}
@@ -21,9 +21,9 @@ use Rattle.tcreplay.specs.declared.outcome.End.TheVariants.{Done, AuditNo}
 use Rattle.tcreplay.specs.declared.input.AuditJob.{AuditJob}
 use Rattle.tcreplay.specs.Tasks.{Audit}
 use Rattle.tcreplay.specs.Verdict.{Verdict, rows_in, file_within, trace_limit}
-use Rattle.tcreplay.specs.Reads.{IsLoad, IsTraceRead, AreRead, is_behind_run}
-use Rattle.tcreplay.specs.Writes.{IsWritten, IsLastEnd}
-use Rattle.tcreplay.specs.Auditing.{Case, case_of, seen_case, case_with, case_in, plan_in, verdict_in, yes_line, ended_by, case_verdict, audit_verdict, IsAuditAnswer, IsJudgedRight, IsAuditHeadline, IsAuditRefusal, HasAudited}
+use Rattle.tcreplay.specs.Reads.{IsLoad, IsTraceRead, AreRead, CutOff, is_behind_run}
+use Rattle.tcreplay.specs.Writes.{IsWritten, IsLastEnd, IsAnswer}
+use Rattle.tcreplay.specs.Auditing.{Case, seen_case, case_with, case_in, plan_in, verdict_in, yes_line, ended_by, case_verdict, audit_verdict, IsJudgedRight, IsAuditHeadline, IsAuditRefusal, HasAudited}
 use Rattle.tcreplay.proofs.EndFacts.{case_fails}
 use Rattle.tcreplay.proofs.JobFacts.{IsEarly, not_run, cut_early, table_err, trace_err, read_with, file_err}
 use Rattle.tcreplay.proofs.TriedFacts.{read_for, not_later}
@@ -39,7 +39,7 @@ abbrev journal_in : ℕ → Option (List ℕ) → Result (List ℕ) End
 journal_in threads file = file_within trace_limit file
 
 abbrev case_made : List ClassRow → Asked → List ℕ → Case
-case_made rows asked journal = case_of (record { rows = rows; asked = asked }) journal
+case_made rows asked journal = record { input = record { rows = rows; asked = asked }; journal = journal }
 
 abbrev pub IsCaseRead : Audit → Reading → Reading → Shelving → Shelving → Result AuditJob End → Type 0
 IsCaseRead audit t u f g result = AreRead None seen_case case_in audit.classes (Some audit.journal) t u f g result
@@ -103,9 +103,8 @@ module _ (audit : Audit) (t u : Reading) (f g : Shelving) (before after : Writin
   the_verdict : audit_verdict read.given ≡ ended_by verdict
   the_verdict = ap case_verdict read.answer ∙ ap ended_by (sym is)
 
-  answered : (end : End) → IsLastEnd (ended_by verdict).end end → IsAuditAnswer read.given t u f g end
-  answered end (inl e) = inl (e ∙ sym (ap (λ (v : Verdict). v.end) the_verdict))
-  answered end (inr failed) = inr (inr (failed.0, ap (λ (v : Verdict). v.end) the_verdict ∙ failed.1))
+  answered : (end : End) (order : List ℕ) → order ≡ [] → IsLastEnd (ended_by verdict).end end → IsAnswer (audit_verdict read.given) (CutOff None read.given t u f g end) end order
+  answered end order none last = grind (arith, the_verdict)
 
   -- the end of a verdict that is Yes, or of one that is No
   legal_at : (calls : ℕ) → verdict ≡ Yes calls → Took before.taken after.taken (yes_line calls) → IsAuditHeadline read.given before after
@@ -143,7 +142,7 @@ module _ (audit : Audit) (t u : Reading) (f g : Shelving) (before after : Writin
   judged_to end order none last written = record {
     given = read.given;
     told = read.told;
-    answer = answered end last;
+    answer = answered end order none last;
     no_order = none;
     read = read_for None (Some audit.journal) read.given t u f g end read.read;
     out = subst (λ (v : Verdict). IsWritten end v.text before after) (sym the_verdict) written;

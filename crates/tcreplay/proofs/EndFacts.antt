@@ -1,5 +1,7 @@
 -- Which ends a step can have.
 use Rattle.std.proofs.Common.{◌≡◌, ℕ, Bool, false, List, Option, Some, None, Result, Ok, Err, subst, arith}
+use Rattle.std.specs.Result.{result_map_both}
+use Rattle.tc_units.specs.declared.spans.ClassRow.{ClassRow}
 use Rattle.size_classes.specs.declared.fault.RowWhy.{RowWhy}
 use Rattle.size_classes.specs.declared.fault.TableFault.{TableFault}
 use Rattle.size_classes.specs.declared.fault.TableFault.TheVariants as table
@@ -10,7 +12,7 @@ use Rattle.tcreplay.specs.declared.outcome.End.{End}
 use Rattle.tcreplay.specs.declared.outcome.End.TheVariants.{BadTable, BadTrace, Memory, TooLong, BadOrder, FileFault}
 use Rattle.tcreplay.specs.Tasks.{Replay}
 use Rattle.tcreplay.specs.Auditing.{case_in}
-use Rattle.tcreplay.specs.Verdict.{Given, and_then, or_end, within, file_within, table_limit, table_end, rows_in, job_of}
+use Rattle.tcreplay.specs.Verdict.{Given, and_then, within, file_within, table_end, rows_in, job_of}
 
 -- a test that no end of the reading passes
 pub record Fails (p : End → Bool) : Type 0 where
@@ -37,7 +39,7 @@ then_ends : {A B : Type 0} (p : End → Bool) (next : A → Result B End) (r : R
 then_ends p next (Ok a) first later = later a
 then_ends p next (Err end) first later = first
 
-or_ends : {A F : Type 0} (p : End → Bool) (end_of : F → End) (r : Result A F) → ((fault : F) → p (end_of fault) ≡ false) → Ends p (or_end end_of r)
+or_ends : {A F : Type 0} (p : End → Bool) (end_of : F → End) (r : Result A F) → ((fault : F) → p (end_of fault) ≡ false) → Ends p (result_map_both (λ (a : A). a) end_of r)
 or_ends p end_of (Ok a) each = tt
 or_ends p end_of (Err fault) each = each fault
 
@@ -53,7 +55,7 @@ table_end_is p fails (table.BadRow row why) = fails.bad row why
 table_end_is p fails table.Memory = fails.all.memory
 
 rows_ends : (p : End → Bool) (file : Option (List ℕ)) → FailsTable p → Ends p (rows_in file)
-rows_ends p file fails = then_ends p (λ bytes. or_end table_end (table_of bytes)) (file_within table_limit file) (file_ends p table_limit file fails.all) (λ bytes. or_ends p table_end (table_of bytes) (table_end_is p fails))
+rows_ends p file fails = then_ends p (λ bytes. result_map_both (λ (rows : List ClassRow). rows) table_end (table_of bytes)) (file_within 65536 file) (file_ends p 65536 file fails.all) (λ bytes. or_ends p table_end (table_of bytes) (table_end_is p fails))
 
 job_ends : (p : End → Bool) (replay : Replay) (given : Given) → FailsJob p → Ends p (job_of replay given)
 job_ends p replay given fails = grind (arith)

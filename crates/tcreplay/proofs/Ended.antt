@@ -1,14 +1,15 @@
 -- Whether all scripts have ended, as a test and as a fact.
 use Rattle.std.proofs.Common.{◌≡◌, true, false, Option, None, Some, refl, sym, ap, ◌∙◌, inl, inr}
-use Rattle.std.specs.Prelude.{ℕ, is_none, slice_get}
+use Rattle.std.specs.Prelude.{ℕ, is_none}
 use Rattle.std.proofs.lemmas.Bool.{cases_Bool}
 use Rattle.std.proofs.lemmas.List.Sums.{AllPass-from_list_all, list_all-from_AllPass}
 use Rattle.std.proofs.lemmas.List.Elements.{All-weaker}
-use Rattle.std.proofs.lemmas.Option.{slice_get_within, get_or_from_slice_get}
+use Rattle.std.proofs.lemmas.Option.{none-some, slice_get_within, get_or_from_slice_get}
 use Rattle.tc_model.specs.declared.steps.Stepped.TheVariants as step
 use Rattle.tc_model.specs.Run.{Rules, World}
-use Rattle.tc_model.specs.Steps.{stepped, stepped_by, stepped_at}
+use Rattle.tc_model.specs.Steps.{stepped}
 use Rattle.tc_model.specs.Replays.{HaveEnded}
+use Rattle.tc_model.proofs.MovingFacts.{move_of}
 use Rattle.tcreplay.specs.Verdict.{have_ended}
 
 none_from : {A : Type 0} (o : Option A) → is_none o ≡ true → o ≡ None
@@ -22,12 +23,11 @@ pub ended_from : {P L : Type 0} (r : Rules P L) (w : World P L) → have_ended r
 ended_from r w is = All-weaker (λ l. is_none (r.want l) ≡ true) (λ l. r.want l ≡ None) (λ l none. none_from (r.want l) none) w.locals (AllPass-from_list_all (λ l. is_none (r.want l)) w.locals is)
 
 -- where a pick would move, not all scripts have ended
-still : {P L : Type 0} (r : Rules P L) (w : World P L) (found : Option L) → ((l : L) → found ≡ Some l → r.want l ≡ None) → stepped_by r w found ≡ step.Moved → ⊥
-still r w None ended moves = cc
-still r w (Some l) ended moves = let at : step.Ended ≡ step.Moved = sym (ap (stepped_at r w l) (ended l refl)) ∙ moves in cc
-
 pub not_ended : {P L : Type 0} (r : Rules P L) (w : World P L) (t : ℕ) → stepped r w t ≡ step.Moved → have_ended r w ≡ false
-not_ended {P} {L} r w t moves = elim (cases_Bool (have_ended r w)) [
-  | inl ended ↦ absurd (still r w (slice_get w.locals t) (λ (l : L) at. sym (ap r.want (get_or_from_slice_get w.locals t l l at)) ∙ ended_from r w ended t l (slice_get_within w.locals t l at)) moves)
+not_ended r w t moves = elim (cases_Bool (have_ended r w)) [
+  | inl ended ↦
+      (let m = move_of r w t moves in
+      let none : r.want m.local ≡ None = sym (ap r.want (get_or_from_slice_get w.locals t m.local m.local m.local_there)) ∙ ended_from r w ended t m.local (slice_get_within w.locals t m.local m.local_there) in
+      absurd (none-some m.place (sym none ∙ m.wants)))
   | inr not ↦ not
 ]

@@ -1,9 +1,10 @@
 -- What the generation of a trace comes to, from what its steps come to.
-use Rattle.std.proofs.Common.{◌≡◌, ℕ, Bool, true, false, List, [], Option, Result, Ok, Err, refl, sym, ap, subst, ◌∙◌, inl, inr}
+use Rattle.std.proofs.Common.{◌≡◌, ◌⊎◌, ℕ, Bool, true, false, List, [], Option, Result, Ok, Err, refl, sym, ap, subst, ◌∙◌, inl, inr}
 use Rattle.std.specs.Prelude.{IsOk}
 use Rattle.std.proofs.Common.{arith}
 use Rattle.tc_units.specs.declared.spans.ClassRow.{ClassRow}
 use Rattle.tc_model.specs.Input.{Asked}
+use Rattle.tc_ports.specs.Faults.{Rose}
 use Rattle.tc_ports.specs.Told.{Took}
 use Rattle.tc_ports.specs.Ends.{Reading, Shelving, Writing}
 use Rattle.trace_reader.specs.Reading.{asked_by}
@@ -13,13 +14,13 @@ use Rattle.tcreplay.specs.declared.generate.Made.{Made}
 use Rattle.tcreplay.specs.declared.run.Ran.{Ran}
 use Rattle.tcreplay.specs.declared.run.Telling.TheVariants.{Summary}
 use Rattle.tcreplay.specs.Tasks.{Workload, InTurn}
-use Rattle.tcreplay.specs.Verdict.{Job, Verdict, and_then, rows_in, asked_of_text, run_verdict, order_of_job}
+use Rattle.tcreplay.specs.Verdict.{Job, Verdict, and_then, rows_in, asked_of_text, run_verdict, order_by}
 use Rattle.tcreplay.specs.Reads.{IsCounted, IsLoad, is_behind_run, seen_job}
 use Rattle.tcreplay.specs.Ran.{seen_ran, IsRan}
-use Rattle.tcreplay.specs.Writes.{Ends, TookText, IsRunEnd, IsLastEnd}
+use Rattle.tcreplay.specs.Writes.{Ends, TookText, IsRunEnd, IsLastEnd, IsAnswer}
 use Rattle.tcreplay.specs.Machines.{per_cpu}
 use Rattle.tcreplay.specs.Order.{IsOrderOf}
-use Rattle.tcreplay.specs.Generating.{trace_of, generation_job_with, generation_job, generation_verdict, IsMade, IsGenerationAnswer, IsGenerationEnd, AreWritten, IsGenerationHeadline, HasGenerated}
+use Rattle.tcreplay.specs.Generating.{trace_of, generation_job, generation_verdict, IsMade, IsGenerationEnd, AreWritten, IsGenerationHeadline, HasGenerated}
 use Rattle.tcreplay.proofs.EndFacts.{FailsTable, table_fails}
 use Rattle.tcreplay.proofs.RanFacts.{run_end, order_is, lawful, text_is, have_all_ended, its_run}
 
@@ -56,7 +57,7 @@ generation_end_by end is = grind (arith)
 
 -- a replay that can't begin ends at the class table
 table_ends : (workload : Workload) (end : End) → ((rows : List ClassRow) → IsOk (asked_of_text rows (trace_of workload)))
-    → (file : Option (List ℕ)) (rows : Result (List ClassRow) End) → rows_in file ≡ rows → and_then (generation_job_with workload) rows ≡ Err end
+    → (file : Option (List ℕ)) (rows : Result (List ClassRow) End) → rows_in file ≡ rows → and_then (λ rows. and_then (job_on rows) (asked_of_text rows (trace_of workload))) rows ≡ Err end
     → rows_in file ≡ Err end
 table_ends workload end valid file (Err other) is bad = let same : other ≡ end = cc in is ∙ ap Err same
 table_ends workload end valid file (Ok rows) is bad = absurd (by_asked (asked_of_text rows (trace_of workload)) (valid rows) bad)
@@ -64,6 +65,10 @@ table_ends workload end valid file (Ok rows) is bad = absurd (by_asked (asked_of
     by_asked : (asked : Result Asked End) → IsOk asked → and_then (job_on rows) asked ≡ Err end → ⊥
     by_asked (Ok asked) is bad = cc
     by_asked (Err other) is bad = let never : false ≡ true = is in cc
+
+-- memory ran out, or the load failed
+abbrev Cut : Shelving → Shelving → End → Type 0
+Cut f g end = (end ≡ Memory) ⊎ ((end ≡ FileFault) × Rose f.faults g.faults)
 
 -- before a run nothing is written
 not_written : (end : End) (trace summary : List ℕ) (out notes : Writing) → is_behind_run end ≡ false → AreWritten end trace summary out out notes notes
@@ -80,7 +85,7 @@ abbrev pub ends_of : Reading → Shelving → Writing → Writing → Ends
 ends_of source files out notes = record { trace = source; files = files; out = out; notes = notes }
 
 module _ (workload : Workload) (source : Reading) (f g : Shelving) (out notes : Writing) where
-  stopped_by : (end : End) (order : List ℕ) (made : IsMade workload f g (Err end)) → IsGenerationAnswer workload made.made.file f g end order
+  stopped_by : (end : End) (order : List ℕ) (made : IsMade workload f g (Err end)) → IsAnswer (generation_verdict workload made.made.file) (Cut f g end) end order
       → is_barred end ≡ false → is_behind_run end ≡ false → IsCounted FileFault end f.faults g.faults
       → HasGenerated workload (ends_of source f out notes) (ends_of source g out notes) end order
   stopped_by end order made answer barred early count = grind (arith, generation_end_by, not_written, not_later)
@@ -90,7 +95,7 @@ module _ (workload : Workload) (source : Reading) (f g : Shelving) (out notes : 
   generated_stopped end order none made = elim made.made.step [
     | inl e ↦
         let bad : rows_in made.made.file ≡ Err end = table_ends workload end made.valid made.made.file (rows_in made.made.file) refl e.0 in
-        let answer : IsGenerationAnswer workload made.made.file f g end order = inl (sym (ap (λ r. (run_verdict per_cpu Summary r).end) e.0), none ∙ sym (ap (λ r. (run_verdict per_cpu Summary r).order) e.0)) in
+        let answer : IsAnswer (generation_verdict workload made.made.file) (Cut f g end) end order = inl (sym (ap (λ r. (run_verdict per_cpu Summary r).end) e.0), none ∙ sym (ap (λ r. (run_verdict per_cpu Summary r).order) e.0)) in
         stopped_by end order made answer (table_fails is_barred made.made.file end not_barred bad) (table_fails is_behind_run made.made.file end not_run bad) (inl e.1)
     | inr (inl memory) ↦ stopped_by end order made (inr (inl (none, inl memory.0))) (ap is_barred memory.0) (ap is_behind_run memory.0) (inl memory.1)
     | inr (inr failed) ↦ stopped_by end order made (inr (inl (none, inr failed))) (ap is_barred failed.0) (ap is_behind_run failed.0) (inr failed)
@@ -109,7 +114,7 @@ last_generation_end ran end is (inl same) = subst IsGenerationEnd (sym same) (ru
 last_generation_end ran end is (inr failed) = subst IsGenerationEnd (sym failed.0) tt
 
 module _ (workload : Workload) (source : Reading) (f g : Shelving) (out written_out notes written_notes : Writing) (made : Made) (text : List ℕ) (ran : Ran) (end : End) (order : List ℕ)
-    (whole : text ≡ made.text.items) (of : IsMade workload f g (Ok made)) (is : IsRan per_cpu Summary (seen_job made.job).input (order_of_job per_cpu (seen_job made.job)) ran) (last : IsLastEnd ran.end end) (same : order ≡ ran.order.items)
+    (whole : text ≡ made.text.items) (of : IsMade workload f g (Ok made)) (is : IsRan per_cpu Summary (seen_job made.job).input (order_by per_cpu.rules (seen_job made.job)) ran) (last : IsLastEnd ran.end end) (same : order ≡ ran.order.items)
     (written : AreWritten end text ran.text.items out written_out notes written_notes) where
   abbrev job : Job
   job = seen_job made.job
@@ -120,7 +125,7 @@ module _ (workload : Workload) (source : Reading) (f g : Shelving) (out written_
   verdict_is : generation_verdict workload file ≡ seen_ran ran
   verdict_is = ap (run_verdict per_cpu Summary) of.made.step.0 ∙ sym is.is
 
-  answered : IsLastEnd ran.end end → IsGenerationAnswer workload file f g end order
+  answered : IsLastEnd ran.end end → IsAnswer (generation_verdict workload file) (Cut f g end) end order
   answered (inl e) = inl (e ∙ sym (ap (λ (v : Verdict). v.end) verdict_is), same ∙ sym (ap (λ (v : Verdict). v.order) verdict_is))
   answered (inr failed) = inr (inr (failed.0, same ∙ sym (ap (λ (v : Verdict). v.order) verdict_is), ap (λ (v : Verdict). v.end) verdict_is ∙ failed.1))
 
@@ -152,7 +157,7 @@ module _ (workload : Workload) (source : Reading) (f g : Shelving) (out written_
     told = of.made.told;
     valid = of.valid;
     answer = answered last;
-    ends = last_generation_end ran.end end (run_end per_cpu Summary job.input (order_of_job per_cpu job) ran is) last;
+    ends = last_generation_end ran.end end (run_end per_cpu Summary job.input (order_by per_cpu.rules job) ran is) last;
     trace = refl;
     files = of.made.files;
     once = of.made.once;

@@ -1,6 +1,7 @@
 -- What the steps of reading come to together: the class table, the trace, and what is behind them.
 use Rattle.std.proofs.Common.{◌≡◌, ℕ, ◌≤◌, inl, true, false, List, [], Option, Some, None, Result, Ok, Err, refl, sym, ap, subst, ◌∙◌, arith}
 use Rattle.std.specs.Prelude.{IfSome, IsOk, IsErr, IsErrAnd, is_err, Vec}
+use Rattle.std.specs.Option.{option_map_or}
 use Rattle.std.specs.Global.{Global}
 use Rattle.tc_units.specs.declared.spans.ClassRow.{ClassRow}
 use Rattle.tc_model.specs.Input.{Asked}
@@ -15,7 +16,7 @@ use Rattle.tcreplay.specs.declared.outcome.End.TheVariants.{Done, TooLong, ReadF
 use Rattle.tcreplay.specs.declared.input.Job.{Job}
 use Rattle.tcreplay.specs.Tasks.{Front, Replay, file_of}
 use Rattle.tcreplay.specs.Verdict as verdict
-use Rattle.tcreplay.specs.Verdict.{Given, and_then, trace_limit, rows_in, asked_in, picks_in, picks_or, job_with, read_of}
+use Rattle.tcreplay.specs.Verdict.{Given, and_then, trace_limit, rows_in, asked_in, picks_in, job_with, read_of}
 use Rattle.tcreplay.specs.Reads.{IsFile, IsStep, IsLoad, ArePicks, IsTraceRead, CutOff, HasRead, IsReadAs, AreRead, IsJobRead, IsCounted, seen_job, most_gone, is_of_file, is_behind_trace, is_behind_run}
 use Rattle.tcreplay.proofs.EndFacts.{FailsTable, FailsJob, table_fails, job_fails}
 use Rattle.tcreplay.proofs.LoadFacts.{some_file, some_file_is}
@@ -205,11 +206,11 @@ items_of v = v.items
 
 named_picks : (replay : Replay) (name : List ℕ) → file_of replay.schedule ≡ Some name → (given : Given) (rows : List ClassRow) (asked : Asked)
     → job_with replay given rows asked ≡ and_then (λ p. Ok (job_made rows asked p)) (picks_in asked.config.threads given.file)
-named_picks replay name named given rows asked = ap (λ o. and_then (λ p. Ok (job_made rows asked p)) (picks_or o asked.config.threads given.file given.came)) named
+named_picks replay name named given rows asked = ap (λ o. and_then (λ p. Ok (job_made rows asked p)) (option_map_or (λ (name : List ℕ). picks_in asked.config.threads given.file) o (Ok given.came))) named
 
 no_picks : (replay : Replay) (rows : List ClassRow) (asked : Asked) → file_of replay.schedule ≡ None → (given : Given) → given.came ≡ []
     → job_with replay given rows asked ≡ Ok (job_made rows asked [])
-no_picks replay rows asked none given came = ap (λ o. and_then (λ p. Ok (job_made rows asked p)) (picks_or o asked.config.threads given.file given.came)) none ∙ ap (λ p. Ok (job_made rows asked p)) came
+no_picks replay rows asked none given came = ap (λ o. and_then (λ p. Ok (job_made rows asked p)) (option_map_or (λ (name : List ℕ). picks_in asked.config.threads given.file) o (Ok given.came))) none ∙ ap (λ p. Ok (job_made rows asked p)) came
 
 module _ (replay : Replay) where
   pub job_table : (t : Reading) (f g : Shelving) (end : End) (result : Result Job End) → IsErrAnd result (λ e. e ≡ end)

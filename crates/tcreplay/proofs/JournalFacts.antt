@@ -1,5 +1,5 @@
 -- What is printed of a run that has ended is a legal journal.
-use Rattle.std.proofs.Common.{◌≡◌, ℕ, ◌<◌, ◌≤◌, List, [], length, map, Bool, Option, Some, sym, ap, ◌∙◌, inl, inr, arith}
+use Rattle.std.proofs.Common.{◌≡◌, ℕ, ◌<◌, ◌≤◌, List, [], length, map, Bool, if◌then◌else◌, Option, Some, sym, ap, ◌∙◌, inl, inr, arith}
 use Rattle.std.specs.Prelude.{All}
 use Rattle.std.specs.List.{range_with_len}
 use Rattle.std.specs.Option.{option_map_or}
@@ -21,7 +21,7 @@ use Rattle.journal_audit.specs.Legal.{calls_of, calls_planned, IsLegal}
 use Rattle.journal_audit.specs.Printed.{PrintedIsLegal}
 use Rattle.tcreplay.specs.declared.run.Telling.{Telling}
 use Rattle.tcreplay.specs.declared.run.Telling.TheVariants.{Whole, Summary}
-use Rattle.tcreplay.specs.Verdict.{text_with, rows_if, profile_if}
+use Rattle.tcreplay.specs.Verdict.{text_with, profile_if}
 use Rattle.tcreplay.specs.Auditing.{plan_in}
 use Rattle.tcreplay.specs.Ran.{AreTellable, IsJournal}
 
@@ -52,7 +52,7 @@ module _ (told : Input → List ℕ → Finished) (law : PrintedIsLegal) (input 
         | inl low ↦ tells.each t low ∙ sym (planned input t low)
         | inr high ↦ ap (map (λ (c : CallLine). c.call)) (tells.others t high) ∙ sym (unplanned input t high)
       ] in
-      law (plan_in input) f.calls f.live f.live_bytes f.used f.resident (rows_if rows f.rows) (profile_if sample f.calls) blocks scripts tellable
+      law (plan_in input) f.calls f.live f.live_bytes f.used f.resident (if rows then f.rows else []) (profile_if sample f.calls) blocks scripts tellable
 
   legal_told : (telling : Telling) → AreTellable telling (told input order).calls → IsJournal told telling input order
   legal_told (Whole rows sample) tellable = legal rows sample tellable

@@ -5,7 +5,6 @@ use Rattle.tc_model.specs.Blocks.{IsBlockRun}
 use Rattle.tc_model.specs.Input.{Input}
 use Rattle.tc_model.specs.Run.{run}
 use Rattle.tc_model.specs.Replays.{HaveEnded}
-use Rattle.cpu_rows.specs.Machine.{rules}
 use Rattle.alloc_rules.specs.Told.{TellsScripts}
 use Rattle.tcreplay.specs.Machines.{Machine, machine_of}
 use Rattle.tcreplay.specs.declared.outcome.End.{End}
@@ -14,7 +13,7 @@ use Rattle.tcreplay.specs.declared.run.Ran.{Ran}
 use Rattle.tcreplay.specs.declared.run.Telling.{Telling}
 use Rattle.tcreplay.specs.declared.task.Locks.{Locks}
 use Rattle.tcreplay.specs.Tasks.{Front, Schedule}
-use Rattle.tcreplay.specs.Verdict.{Job, Verdict, told_by, have_ended, order_of_job}
+use Rattle.tcreplay.specs.Verdict.{Job, Verdict, told_by, have_ended, order_by}
 use Rattle.tcreplay.specs.Ran.{IsRan, IsRanByThreads, IsJournal}
 use Rattle.tcreplay.specs.Reads.{IsMadeOf}
 use Rattle.tcreplay.specs.Writes.{IsRunEnd, IsLastEnd}
@@ -35,10 +34,10 @@ run_end_if m false telling input order = tt
 pub run_end : (m : Machine) (telling : Telling) (input : Input) (order : List ℕ) (ran : Ran) → IsRan m telling input order ran → IsRunEnd ran.end
 run_end m telling input order ran is = subst IsRunEnd (sym (ap (λ (v : Verdict). v.end) is.is)) (run_end_if m (have_ended (m.rules input) (run (m.rules input) order)) telling input order)
 
-module _ (m : Machine) (telling : Telling) (job : Job) (ran : Ran) (end : End) (order : List ℕ) (is : IsRan m telling job.input (order_of_job m job) ran) (last : IsLastEnd ran.end end) (same : order ≡ ran.order.items) where
+module _ (m : Machine) (telling : Telling) (job : Job) (ran : Ran) (end : End) (order : List ℕ) (is : IsRan m telling job.input (order_by m.rules job) ran) (last : IsLastEnd ran.end end) (same : order ≡ ran.order.items) where
   -- the job's order, and whether the run of that has ended
   abbrev whole : List ℕ
-  whole = order_of_job m job
+  whole = order_by m.rules job
 
   abbrev ended : Bool
   ended = have_ended (m.rules job.input) (run (m.rules job.input) whole)

@@ -1,5 +1,5 @@
 -- What a run comes to, from what the machine says of it.
-use Rattle.std.proofs.Common.{◌≡◌, ℕ, ◌+◌, ◌≤◌, Bool, true, false, cond, List, [], ◌∷◌, ◌++◌, length, Option, Result, Err, refl, sym, ap, subst, ◌∙◌, arith}
+use Rattle.std.proofs.Common.{◌≡◌, ℕ, ◌+◌, ◌≤◌, Bool, true, false, cond, if◌then◌else◌, List, [], ◌∷◌, ◌++◌, length, Option, Result, Err, refl, sym, ap, subst, ◌∙◌, arith}
 use Rattle.std.specs.Prelude.{IfErr}
 use Rattle.std.specs.List.{flat_map}
 use Rattle.std.proofs.lemmas.Bool.Decides.{nat_tests}
@@ -20,7 +20,7 @@ use Rattle.tc_units.specs.declared.rows.RowView.{RowView}
 use Rattle.usage_report.specs.Report.{call_line, row_lines, summary_of}
 use Rattle.tc_machine.specs.declared.totals.Totals.{Totals}
 use Rattle.tc_machine.specs.Finish.{totals_of}
-use Rattle.tcreplay.specs.Verdict.{Verdict, judged_by, order_by, profile_if, rows_if, text_with, told_by}
+use Rattle.tcreplay.specs.Verdict.{Verdict, judged_by, order_by, profile_if, text_with, told_by}
 use Rattle.tcreplay.specs.Order.{IsFilled}
 use Rattle.tcreplay.proofs.Ended.{ended_true, not_ended}
 
@@ -36,7 +36,7 @@ followed_each r limit past (t ∷ ts) polite few =
 
 -- a text in whose turn the lines of calls, the summary, the lines of hugepages and the profile came
 pub text_is : (f : Finished) (rows : Bool) (sample : Option ℕ) (t : Totals) (views : List RowView) (lines summed told whole : List ℕ) → t ≡ totals_of f → lines ≡ flat_map call_line f.calls
-    → summed ≡ lines ++ summary_of t.calls t.live t.live_bytes t.used t.resident → views ≡ rows_if rows t.rows → told ≡ summed ++ row_lines views
+    → summed ≡ lines ++ summary_of t.calls t.live t.live_bytes t.used t.resident → views ≡ (if rows then t.rows else []) → told ≡ summed ++ row_lines views
     → whole ≡ told ++ profile_if sample f.calls → whole ≡ text_with rows sample f
 text_is f rows sample t views lines summed told whole same of_calls of_summary of_views of_rows of_profile =
     let calls : List ℕ = flat_map call_line f.calls in
@@ -49,7 +49,7 @@ module _ {P L : Type 0} (rules : Input → Rules P L) where
 
   -- at the limit an order has as many picks as may move
   pub filled_at : (input : Input) (whole order : List ℕ) (ticket : ℕ) → IsAtLimit (rules input) input.asked.config.events whole order ticket → IsFilled rules input (Full ticket) order
-  filled_at input whole order ticket limit = record { limit = limit.ticket_is; full = limit.full ∙ sym limit.ticket_is; thread = limit.thread; would_move = limit.would_move }
+  filled_at input whole order ticket limit = (limit.ticket_is, limit.full ∙ sym limit.ticket_is, (limit.thread, limit.would_move))
 
   -- the order of a job whose picks threads made is these picks, completed
   pub completed_is : (input : Input) (came : List ℕ) → IsPolite (rules input) (start (rules input)) came → length came ≤ input.asked.config.events

@@ -14,12 +14,12 @@ use Rattle.tcreplay.specs.declared.task.Locks.{Locks}
 use Rattle.tcreplay.specs.Machines.{Machine, machine_of, locks_for}
 use Rattle.tcreplay.specs.Tasks.{Front, Replay, Schedule, file_of, locks_in}
 use Rattle.tcreplay.specs.Verdict as verdict
-use Rattle.tcreplay.specs.Verdict.{Given, Verdict, and_then, rows_in, asked_in, job_with, run_verdict, order_of_job, job_of}
-use Rattle.tcreplay.specs.Reads.{IsMadeOf, HaveCome, AreGiven, HasRead, IsJobRead, is_behind_run, seen_job}
+use Rattle.tcreplay.specs.Verdict.{Given, Verdict, and_then, rows_in, asked_in, job_with, run_verdict, order_by, job_of}
+use Rattle.tcreplay.specs.Reads.{IsMadeOf, HaveCome, AreGiven, CutOff, HasRead, IsJobRead, is_behind_run, seen_job}
 use Rattle.tcreplay.specs.Ran.{seen_ran, IsRan, IsRanByThreads}
-use Rattle.tcreplay.specs.Writes.{IsWritten, IsLastEnd}
+use Rattle.tcreplay.specs.Writes.{IsWritten, IsLastEnd, IsAnswer}
 use Rattle.tcreplay.specs.Order.{IsCompleted, IsOrderOf}
-use Rattle.tcreplay.specs.Replayed.{IsAnswer, IsHeadline, HasTried, runs, verdict_on}
+use Rattle.tcreplay.specs.Replayed.{IsHeadline, HasTried, verdict_on}
 use Rattle.tcreplay.proofs.EndFacts.{job_fails}
 use Rattle.tcreplay.proofs.JobFacts.{not_run, cut_early, gone_for}
 use Rattle.tcreplay.proofs.RunFacts.{completed_is}
@@ -63,29 +63,29 @@ took : (end : End) (text : List ℕ) (before after : Writing) → end ≡ Done �
 took end text before after done written = (subst (λ e. IsWritten e text before after) done written).taken
 
 module _ (replay : Replay) (given : Given) (t u : Reading) (f g : Shelving) (before after : Writing) (job : verdict.Job) (ran : Ran) (end : End) (order : List ℕ)
-    (told : AreGiven replay f.files t.left given) (asked : job_of replay given ≡ Ok job) (read : HasRead (Some replay.front) (file_of replay.schedule) given t u f g Done) (is : IsRan (runs replay) (Whole replay.rows replay.sample) job.input (order_of_job (runs replay) job) ran) (made : IsCompleted (runs replay) replay.schedule job (order_of_job (runs replay) job))
+    (told : AreGiven replay f.files t.left given) (asked : job_of replay given ≡ Ok job) (read : HasRead (Some replay.front) (file_of replay.schedule) given t u f g Done) (is : IsRan (machine_of replay.front) (Whole replay.rows replay.sample) job.input (order_by (machine_of replay.front).rules job) ran) (made : IsCompleted (machine_of replay.front) replay.schedule job (order_by (machine_of replay.front).rules job))
     (last : IsLastEnd ran.end end) (same : order ≡ ran.order.items) (written : IsWritten end ran.text.items before after) where
   verdict_is : verdict_on replay given ≡ seen_ran ran
-  verdict_is = ap (run_verdict (runs replay) (Whole replay.rows replay.sample)) asked ∙ sym is.is
+  verdict_is = ap (run_verdict (machine_of replay.front) (Whole replay.rows replay.sample)) asked ∙ sym is.is
 
-  answered : IsLastEnd ran.end end → IsAnswer replay given t u f g end order
+  answered : IsLastEnd ran.end end → IsAnswer (verdict_on replay given) (CutOff (Some replay.front) given t u f g end) end order
   answered (inl e) = inl (e ∙ sym (ap (λ (v : Verdict). v.end) verdict_is), same ∙ sym (ap (λ (v : Verdict). v.order) verdict_is))
   answered (inr failed) = inr (inr (failed.0, same ∙ sym (ap (λ (v : Verdict). v.order) verdict_is), ap (λ (v : Verdict). v.end) verdict_is ∙ failed.1))
 
   abbrev telling : Telling
   telling = Whole replay.rows replay.sample
 
-  headline : end ≡ Done → IsHeadline replay given before after order
+  headline : end ≡ Done → IsHeadline (machine_of replay.front) replay given before after order
   headline done = record {
     job = job;
     asked = asked;
-    order_is = order_is (runs replay) telling job ran end order is last same;
-    ended = have_all_ended (runs replay) telling job ran end order is last same done;
-    told = told_scripts (runs replay) telling job ran end order is last same done;
-    text = subst (Took before.taken after.taken) (text_is (runs replay) telling job ran end order is last same done) (took end ran.text.items before after done written);
-    blocks = told_blocks (runs replay) telling job ran end order is last same done;
-    journal = legal_journal (runs replay) telling job ran end order is last same done;
-    law = lawful (runs replay) telling job ran end order is last same;
+    order_is = order_is (machine_of replay.front) telling job ran end order is last same;
+    ended = have_all_ended (machine_of replay.front) telling job ran end order is last same done;
+    told = told_scripts (machine_of replay.front) telling job ran end order is last same done;
+    text = subst (Took before.taken after.taken) (text_is (machine_of replay.front) telling job ran end order is last same done) (took end ran.text.items before after done written);
+    blocks = told_blocks (machine_of replay.front) telling job ran end order is last same done;
+    journal = legal_journal (machine_of replay.front) telling job ran end order is last same done;
+    law = lawful (machine_of replay.front) telling job ran end order is last same;
   }
 
   -- of the one job that was given
@@ -100,8 +100,8 @@ module _ (replay : Replay) (given : Given) (t u : Reading) (f g : Shelving) (bef
     answer = answered last;
     read = read_for (Some replay.front) (file_of replay.schedule) given t u f g end read;
     out = subst (λ (v : Verdict). IsWritten end v.text before after) (sym verdict_is) written;
-    law = λ _. of_job (λ (j : verdict.Job). (runs replay).lawful j.input order) (lawful (runs replay) telling job ran end order is last same);
-    run = λ _. of_job (λ (j : verdict.Job). IsOrderOf (runs replay) replay.schedule j end order) (its_run (runs replay) telling job ran end order is last same replay.schedule made);
+    law = λ _. of_job (λ (j : verdict.Job). (machine_of replay.front).lawful j.input order) (lawful (machine_of replay.front) telling job ran end order is last same);
+    run = λ _. of_job (λ (j : verdict.Job). IsOrderOf (machine_of replay.front) replay.schedule j end order) (its_run (machine_of replay.front) telling job ran end order is last same replay.schedule made);
     headline = headline;
   }
 
@@ -111,9 +111,9 @@ alone_is m schedule job order alone = grind (arith)
 
 pub tried_ran : (replay : Replay) (t u : Reading) (f g : Shelving) (before after : Writing) (job : Job) (ran : Ran) (end : End) (order : List ℕ)
     → locks_in replay.schedule ≡ None → IsJobRead replay t u f g (Ok job)
-    → IsRan (runs replay) (Whole replay.rows replay.sample) (seen_job job).input (order_of_job (runs replay) (seen_job job)) ran → IsLastEnd ran.end end
+    → IsRan (machine_of replay.front) (Whole replay.rows replay.sample) (seen_job job).input (order_by (machine_of replay.front).rules (seen_job job)) ran → IsLastEnd ran.end end
     → order ≡ ran.order.items → IsWritten end ran.text.items before after → HasTried replay t u f g before after end order
-tried_ran replay t u f g before after job ran end order alone read is last same written = tried_by replay read.given t u f g before after (seen_job job) ran end order (given_to replay t u f g (Ok job) read) read.answer read.read is (alone_is (runs replay) replay.schedule (seen_job job) (order_of_job (runs replay) (seen_job job)) alone) last same written
+tried_ran replay t u f g before after job ran end order alone read is last same written = tried_by replay read.given t u f g before after (seen_job job) ran end order (given_to replay t u f g (Ok job) read) read.answer read.read is (alone_is (machine_of replay.front) replay.schedule (seen_job job) (order_by (machine_of replay.front).rules (seen_job job)) alone) last same written
 
 -- what was given, with the picks that came
 abbrev given_with : Given → List ℕ → Given
@@ -145,17 +145,17 @@ came_is : (m : Machine) (schedule : Schedule) (locks : Locks) (job : verdict.Job
 came_is m schedule locks job came threads made = grind (arith)
 
 completed_by : (m : Machine) (schedule : Schedule) (locks : Locks) (job : verdict.Job) (came : List ℕ) → locks_in schedule ≡ Some locks
-    → IsMadeOf m job.input came → IsCompleted m schedule (job_behind job came) (order_of_job m (job_behind job came))
+    → IsMadeOf m job.input came → IsCompleted m schedule (job_behind job came) (order_by m.rules (job_behind job came))
 completed_by m schedule locks job came threads made = grind (arith, completed_is)
 
 -- with worker threads
-pub tried_threads : (replay : Replay) (locks : Locks) (t u : Reading) (f g : Shelving) (before after : Writing) (job : Job) (ran : Ran) (end : End) (order : List ℕ) → locks_in replay.schedule ≡ Some locks → IsJobRead replay t u f g (Ok job) → IsRanByThreads (runs replay) (locks_for replay.front locks) (Whole replay.rows replay.sample) (seen_job job).input ran → IsLastEnd ran.end end → order ≡ ran.order.items → IsWritten end ran.text.items before after → HasTried replay t u f g before after end order
+pub tried_threads : (replay : Replay) (locks : Locks) (t u : Reading) (f g : Shelving) (before after : Writing) (job : Job) (ran : Ran) (end : End) (order : List ℕ) → locks_in replay.schedule ≡ Some locks → IsJobRead replay t u f g (Ok job) → IsRanByThreads (machine_of replay.front) (locks_for replay.front locks) (Whole replay.rows replay.sample) (seen_job job).input ran → IsLastEnd ran.end end → order ≡ ran.order.items → IsWritten end ran.text.items before after → HasTried replay t u f g before after end order
 tried_threads replay locks t u f g before after job ran end order threads read by_threads last same written =
     let came : List ℕ = by_threads.came in
     let made = made_by replay.front (locks_for replay.front locks) (Whole replay.rows replay.sample) (seen_job job).input ran by_threads in
     let given : Given = given_with read.given came in
     let none : file_of replay.schedule ≡ None = no_file replay.schedule locks threads in
     let asked : job_of replay given ≡ Ok (job_behind (seen_job job) came) = behind_rows replay read.given came (seen_job job) none (rows_in read.given.table) read.answer in
-    let told : AreGiven replay f.files t.left given = record { told = record { table = read.told.table; trace = read.told.trace; file = read.told.file }; came = subst (λ j. HaveCome (runs replay) replay.schedule j came) (sym asked) (came_is (runs replay) replay.schedule locks (seen_job job) came threads made) } in
-    let had : HasRead (Some replay.front) (file_of replay.schedule) given t u f g Done = record { files = read.read.files; loads = elim read.read.loads [ inl once ↦ inl once | inr two ↦ inr (record { twice = two.twice; named = two.named; good = two.good; drained = two.drained }) ]; behind_run = read.read.behind_run; behind_file = read.read.behind_file; file_count = read.read.file_count; untouched = read.read.untouched; lost = read.read.lost; reads = read.read.reads; drained = read.read.drained; trace_count = read.read.trace_count } in
-    tried_by replay given t u f g before after (job_behind (seen_job job) came) ran end order told asked had by_threads.whole (completed_by (runs replay) replay.schedule locks (seen_job job) came threads made) last same written
+    let told : AreGiven replay f.files t.left given = record { told = record { table = read.told.table; trace = read.told.trace; file = read.told.file }; came = subst (λ j. HaveCome (machine_of replay.front) replay.schedule j came) (sym asked) (came_is (machine_of replay.front) replay.schedule locks (seen_job job) came threads made) } in
+    let had : HasRead (Some replay.front) (file_of replay.schedule) given t u f g Done = record { files = read.read.files; loads = read.read.loads; behind_run = read.read.behind_run; behind_file = read.read.behind_file; file_count = read.read.file_count; untouched = read.read.untouched; lost = read.read.lost; reads = read.read.reads; drained = read.read.drained; trace_count = read.read.trace_count } in
+    tried_by replay given t u f g before after (job_behind (seen_job job) came) ran end order told asked had by_threads.whole (completed_by (machine_of replay.front) replay.schedule locks (seen_job job) came threads made) last same written

@@ -1,9 +1,8 @@
 -- What threads left of a run, and what it comes to once it is completed.
-use Rattle.std.proofs.Common.{◌≡◌, ℕ, ◌≤◌, ◌-◌, List, length, Result, sym, ap, subst, ◌∙◌, arith}
+use Rattle.std.proofs.Common.{◌≡◌, ℕ, ◌≤◌, List, length, Result, sym, ap, subst, ◌∙◌, arith}
 use Rattle.std.specs.Prelude.{IfOk, All, Option, Some, None}
 use Rattle.std.specs.declared.alloc.AllocError.{AllocError}
 use Rattle.std.proofs.lemmas.List.{length-append, length-map}
-use Rattle.tc_model.specs.declared.board.Entry.{Entry}
 use Rattle.tc_model.specs.declared.board.Halt.{Halt}
 use Rattle.tc_model.specs.declared.board.Halt.TheVariants.{Memory, Full}
 use Rattle.tc_model.specs.declared.board.Turn.{Turn}
@@ -21,7 +20,7 @@ use Rattle.tc_model.proofs.MovingFacts.{moving_all}
 use Rattle.alloc_rules.specs.Machine.{turns}
 use Rattle.tc_machine.specs.Played.{Played}
 use Rattle.replay_workers.specs.Runs.{halt_among}
-use Rattle.relay.specs.Ends.{IsRun, threads_in}
+use Rattle.relay.specs.Ends.{IsRun}
 use Rattle.tcreplay.specs.declared.run.Ran.{Ran}
 use Rattle.tcreplay.specs.declared.run.Telling.{Telling}
 use Rattle.tcreplay.specs.declared.task.Locks.{Locks}
@@ -30,14 +29,9 @@ use Rattle.tcreplay.specs.Came.{IsLeft}
 use Rattle.tcreplay.specs.Ran.{seen_ran, IsRunOf, IsRunByThreads}
 use Rattle.tcreplay.proofs.RunFacts.{completed_is}
 
--- what was left is the run of the order that came
-pub left_run : {P L : Type 0} (r : Rules P L) (parts : List P) (locals : List L) (es : List Entry) (order : List ℕ) → IsRun r parts locals es
-    → order ≡ threads_in es → world_of parts locals ≡ run r order
-left_run r parts locals es order left is = ap (λ ps. world_of ps locals) left.parts_are ∙ (ap (λ ls. world_of (run r (threads_in es)).parts ls) left.locals_are ∙ sym (ap (run r) is))
-
-pub left_moves : {P L : Type 0} (r : Rules P L) (parts : List P) (locals : List L) (es : List Entry) (order : List ℕ) → IsRun r parts locals es
-    → order ≡ threads_in es → moving r (start r) order ≡ order
-left_moves r parts locals es order left is = subst (λ o. moving r (start r) o ≡ o) (sym is) (moving_all r (start r) (threads_in es) (polite_moves r (start r) (threads_in es) left.polite))
+-- what was left is the run of the order that came, so its picks move
+pub left_moves : {P L : Type 0} (r : Rules P L) (parts : List P) (locals : List L) (order : List ℕ) → IsRun r parts locals order → moving r (start r) order ≡ order
+left_moves r parts locals order left = moving_all r (start r) order (polite_moves r (start r) order left.polite)
 
 -- over the rules of a machine
 module _ {P L : Type 0} (rules : Input → Rules P L) where
@@ -55,10 +49,10 @@ module _ {P L : Type 0} (rules : Input → Rules P L) where
     by_threads_under locks telling input came ran under seen locked polite ran_so = grind (arith, length-append, completed_is)
 
   -- what was left under part locks
-  pub parts_left : {C O : Type 0} (result : Result C AllocError) (state : C → Played O) (under : C → Locks) (last : C → List Turn) (stopped : C → Option Halt) (input other : Input) (es : List Entry) (lasts : List Turn) (halt : Option Halt)
-      → other ≡ input → IsPolite (rules input) (start (rules input)) (threads_in es) → halt ≡ halt_among lasts → (halt_among lasts ≡ None → All (λ last. last ≡ Ended) lasts)
-      → (halt ≡ Some Full → length es ≡ input.asked.config.events) → length lasts ≡ input.asked.config.threads
-      → (halt ≡ None → HaveEnded (rules input) (run (rules input) (threads_in es)))
-      → IfOk result (λ c. (state c).input ≡ other) → IfOk result (λ c. (state c).order ≡ threads_in es) → IfOk result (λ c. under c ≡ Parts) → IfOk result (λ c. last c ≡ lasts)
+  pub parts_left : {C O : Type 0} (result : Result C AllocError) (state : C → Played O) (under : C → Locks) (last : C → List Turn) (stopped : C → Option Halt) (input other : Input) (order : List ℕ) (lasts : List Turn) (halt : Option Halt)
+      → other ≡ input → IsPolite (rules input) (start (rules input)) order → halt ≡ halt_among lasts → (halt_among lasts ≡ None → All (λ last. last ≡ Ended) lasts)
+      → (halt ≡ Some Full → length order ≡ input.asked.config.events) → length lasts ≡ input.asked.config.threads
+      → (halt ≡ None → HaveEnded (rules input) (run (rules input) order))
+      → IfOk result (λ c. (state c).input ≡ other) → IfOk result (λ c. (state c).order ≡ order) → IfOk result (λ c. under c ≡ Parts) → IfOk result (λ c. last c ≡ lasts)
       → IfOk result (λ c. stopped c ≡ halt) → IfOk result (λ c. stopped c ≡ Some Memory → ⊥) → IfOk result (λ c. IsLeft rules input Parts (state c) (under c) (last c) (stopped c))
-  parts_left result state under last stopped input other es lasts halt same polite is over full each ended i o k l h enough = grind (arith, length-map)
+  parts_left result state under last stopped input other order lasts halt same polite is over full each ended i o k l h enough = grind (arith, length-map)

@@ -1,6 +1,6 @@
 -- What an audit comes to: a trace and then a journal are read, and the journal is judged by the trace. `yes` and the number
 -- of its calls are printed, or the first line that fails ends the work.
-use Rattle.std.specs.Prelude.{◌≡◌, ℕ, ◌≤◌, ◌⊎◌, ◌++◌, true, List, [], length, Some, None, Result, Ok, Err, codes, decimal}
+use Rattle.std.specs.Prelude.{◌≡◌, ℕ, ◌≤◌, ◌++◌, true, List, [], length, Some, None, Result, Ok, Err, codes, decimal}
 use Rattle.tc_units.specs.declared.spans.ClassRow.{ClassRow}
 use Rattle.tc_model.specs.Input.{Input, Asked, scripts_of}
 use Rattle.tc_ports.specs.Told.{Took}
@@ -12,26 +12,24 @@ use Rattle.journal_audit.specs.declared.verdict.Verdict.TheVariants.{Yes, No}
 use Rattle.journal_audit.specs.Rules.{Plan, plan_of, journal_of, audited}
 use Rattle.journal_audit.specs.Legal.{IsLegal, IsYesOnLegal}
 use Rattle.tcreplay.specs.declared.outcome.End.{End}
-use Rattle.tcreplay.specs.declared.outcome.End.TheVariants.{Done, WriteFault, AuditNo}
+use Rattle.tcreplay.specs.declared.outcome.End.TheVariants.{Done, AuditNo}
 use Rattle.tcreplay.specs.declared.input.AuditJob.{AuditJob}
 use Rattle.tcreplay.specs.Tasks.{Audit}
 use Rattle.tcreplay.specs.Verdict.{Given, Verdict, and_then, read_of, refused, file_within, trace_limit}
 use Rattle.tcreplay.specs.Reads.{AreTold, CutOff, HasRead, is_behind_run}
-use Rattle.tcreplay.specs.Writes.{IsWritten}
+use Rattle.tcreplay.specs.Writes.{IsWritten, IsAnswer}
 
 -- what is judged, and by what: the bytes of a journal, by the class table and what the trace asks for
 pub record Case : Type 0 where
   pub input : Input
   pub journal : List ℕ
 
-abbrev pub case_of : Input → List ℕ → Case
-case_of input journal = record { input = input; journal = journal }
-
 abbrev pub seen_case : AuditJob → Case
-seen_case job = case_of (input_of job.table job.trace) job.journal.items
+seen_case job = record { input = input_of job.table job.trace; journal = job.journal.items }
 
 abbrev pub case_with : Given → List ClassRow → Asked → Result Case End
-case_with given rows asked = and_then (λ journal. Ok (case_of (record { rows = rows; asked = asked }) journal)) (file_within trace_limit given.file)
+case_with given rows asked =
+    and_then (λ journal. Ok (record { input = record { rows = rows; asked = asked }; journal = journal })) (file_within trace_limit given.file)
 
 abbrev pub case_in : Given → Result Case End
 case_in = read_of None case_with
@@ -58,10 +56,6 @@ case_verdict (Ok case) = ended_by (verdict_in case)
 abbrev pub audit_verdict : Given → Verdict
 audit_verdict given = case_verdict (case_in given)
 
--- The answer is the verdict; or what it reads was cut off; or the line that was to be written wasn't taken.
-abbrev pub IsAuditAnswer : Given → Reading → Reading → Shelving → Shelving → End → Type 0
-IsAuditAnswer given t u f g end = (end ≡ (audit_verdict given).end) ⊎ (CutOff None given t u f g end ⊎ ((end ≡ WriteFault) × ((audit_verdict given).end ≡ Done)))
-
 -- the verdict on a journal is Yes exactly where that is legal and has no more lines of calls than a trace may have calls
 abbrev pub IsJudgedRight : Case → Type 0
 IsJudgedRight case = IsYesOnLegal (plan_in case.input) (journal_of case.journal) (verdict_in case)
@@ -86,7 +80,7 @@ pub record IsAuditRefusal (given : Given) (line : ℕ) (why : AuditWhy) : Type 0
 pub record HasAudited (audit : Audit) (t u : Reading) (f g : Shelving) (before after : Writing) (end : End) (order : List ℕ) : Type 0 where
   pub given : Given
   pub told : AreTold audit.classes (Some audit.journal) f.files t.left given
-  pub answer : IsAuditAnswer given t u f g end
+  pub answer : IsAnswer (audit_verdict given) (CutOff None given t u f g end) end order
   pub no_order : order ≡ []
   pub read : HasRead None (Some audit.journal) given t u f g end
   pub out : IsWritten end (audit_verdict given).text before after

@@ -1,13 +1,11 @@
 -- What the generation of a trace comes to: the trace is replayed in serial, and only then it is written, and the summary of
 -- that replay behind it.
 use Rattle.std.specs.Prelude.{◌≡◌, ℕ, ◌⊎◌, true, List, [], Option, Result, Ok, IsOk, IfOk}
-use Rattle.std.specs.FinMap.{get}
 use Rattle.tc_units.specs.declared.spans.ClassRow.{ClassRow}
 use Rattle.tc_model.specs.Run.{run}
 use Rattle.tc_model.specs.Replays.{HaveEnded}
 use Rattle.tc_ports.specs.Faults.{one_more, Rose}
 use Rattle.tc_ports.specs.Told.{Took}
-use Rattle.tc_ports.specs.Shelves.{Files}
 use Rattle.trace_gen.specs.TraceText.{trace_text}
 use Rattle.tc_ports.specs.Ends.{Shelving, Writing}
 use Rattle.tcreplay.specs.Machines.{per_cpu}
@@ -16,9 +14,9 @@ use Rattle.tcreplay.specs.declared.generate.Made.{Made}
 use Rattle.tcreplay.specs.declared.outcome.End.{End}
 use Rattle.tcreplay.specs.declared.outcome.End.TheVariants.{Done, BadTable, WriteFault, Memory, TooLong, Full, FileFault}
 use Rattle.tcreplay.specs.Tasks.{Workload, InTurn}
-use Rattle.tcreplay.specs.Verdict.{Job, Verdict, and_then, rows_in, asked_of_text, order_of_job, run_verdict, summary_in}
+use Rattle.tcreplay.specs.Verdict.{Job, Verdict, and_then, rows_in, asked_of_text, order_by, run_verdict, summary_in}
 use Rattle.tcreplay.specs.Reads.{IsFile, IsLoad, IsCounted, is_behind_run, seen_job}
-use Rattle.tcreplay.specs.Writes.{Ends, TookText, TookPartOf}
+use Rattle.tcreplay.specs.Writes.{Ends, TookText, TookPartOf, IsAnswer}
 use Rattle.tcreplay.specs.Order.{IsOrderOf}
 
 -- the trace of a workload
@@ -26,11 +24,10 @@ abbrev pub trace_of : Workload → List ℕ
 trace_of workload = trace_text workload.seed workload.calls workload.threads
 
 -- its serial replay under a class table
-abbrev pub generation_job_with : Workload → List ClassRow → Result Job End
-generation_job_with workload rows = and_then (λ asked. Ok (record { input = record { rows = rows; asked = asked }; picks = [] })) (asked_of_text rows (trace_of workload))
-
 abbrev pub generation_job : Workload → Option (List ℕ) → Result Job End
-generation_job workload table = and_then (generation_job_with workload) (rows_in table)
+generation_job workload table =
+    and_then (λ rows. and_then (λ asked. Ok (record { input = record { rows = rows; asked = asked }; picks = [] })) (asked_of_text rows (trace_of workload)))
+    (rows_in table)
 
 -- the end and the order of that replay, and its summary
 abbrev pub generation_verdict : Workload → Option (List ℕ) → Verdict
@@ -41,14 +38,6 @@ pub record IsMade (workload : Workload) (f g : Shelving) (result : Result Made E
   pub valid : (rows : List ClassRow) → IsOk (asked_of_text rows (trace_of workload))
   pub made : IsLoad (λ (made : Made). seen_job made.job) (generation_job workload) workload.classes f g result
   pub text : IfOk result (λ made. made.text.items ≡ trace_of workload)
-
--- The answer is the verdict; or memory ran out, or the load of the class table failed; or what was to be written wasn't
--- taken.
-abbrev pub IsGenerationAnswer : Workload → Option (List ℕ) → Shelving → Shelving → End → List ℕ → Type 0
-IsGenerationAnswer workload table f g end order =
-    ((end ≡ (generation_verdict workload table).end) × (order ≡ (generation_verdict workload table).order))
-    ⊎ (((order ≡ []) × ((end ≡ Memory) ⊎ ((end ≡ FileFault) × Rose f.faults g.faults)))
-    ⊎ ((end ≡ WriteFault) × (order ≡ (generation_verdict workload table).order) × ((generation_verdict workload table).end ≡ Done)))
 
 -- The trace goes to `out` by one put, and then the summary to `notes` by one put. At a write fault `out` took a part of the
 -- trace, and `notes` nothing; or `notes` took a part of the summary. Else both are untouched.
@@ -74,18 +63,19 @@ IsGenerationEnd end = ⊥
 pub record IsGenerationHeadline (workload : Workload) (table : Option (List ℕ)) (before after : Ends) (order : List ℕ) : Type 0 where
   pub job : Job
   pub asked : generation_job workload table ≡ Ok job
-  pub order_is : order ≡ order_of_job per_cpu job
+  pub order_is : order ≡ order_by per_cpu.rules job
   pub ended : HaveEnded (per_cpu.rules job.input) (run (per_cpu.rules job.input) order)
   pub trace : Took before.out.taken after.out.taken (trace_of workload)
   pub summary : Took before.notes.taken after.notes.taken (summary_in (per_cpu.told job.input order))
   pub law : per_cpu.lawful job.input order
 
--- A generation was tried: the source is untouched, and one file is loaded, the class table.
+-- A generation was tried: the source is untouched, and one file is loaded, the class table. Memory may run out, or that load
+-- fail.
 pub record HasGenerated (workload : Workload) (before after : Ends) (end : End) (order : List ℕ) : Type 0 where
   pub table : Option (List ℕ)
   pub told : IsFile before.files.files workload.classes table
   pub valid : (rows : List ClassRow) → IsOk (asked_of_text rows (trace_of workload))
-  pub answer : IsGenerationAnswer workload table before.files after.files end order
+  pub answer : IsAnswer (generation_verdict workload table) ((end ≡ Memory) ⊎ ((end ≡ FileFault) × Rose before.files.faults after.files.faults)) end order
   pub ends : IsGenerationEnd end
   pub trace : after.trace ≡ before.trace
   pub files : after.files.files ≡ before.files.files
@@ -95,8 +85,3 @@ pub record HasGenerated (workload : Workload) (before after : Ends) (end : End) 
   pub law : is_behind_run end ≡ true → (job : Job) → generation_job workload table ≡ Ok job → per_cpu.lawful job.input order
   pub run : is_behind_run end ≡ true → (job : Job) → generation_job workload table ≡ Ok job → IsOrderOf per_cpu InTurn job end order
   pub headline : end ≡ Done → IsGenerationHeadline workload table before after order
-
--- where the shelf tells its files, the end and the order are those of the verdict on its class table
-pub record IsGenerationToldBy (workload : Workload) (all : Files) (end : End) (order : List ℕ) : Type 0 where
-  pub end_is : end ≡ (generation_verdict workload (get all workload.classes)).end
-  pub order_is : order ≡ (generation_verdict workload (get all workload.classes)).order

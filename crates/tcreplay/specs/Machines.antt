@@ -79,5 +79,4 @@ machine_of (Nodes nodes) = per_node nodes
 -- the locks under which its threads run where these are asked for: one lock is known by the per-CPU caches alone
 abbrev pub locks_for : Front → Locks → Locks
 locks_for Cpus locks = locks
-locks_for Threads locks = Parts
-locks_for (Nodes nodes) locks = Parts
+locks_for other locks = Parts

@@ -8,29 +8,23 @@ use Rattle.tc_model.specs.Serial.{completed}
 use Rattle.alloc_rules.specs.Machine.{turns}
 use Rattle.tcreplay.specs.declared.outcome.End.{End}
 use Rattle.tcreplay.specs.declared.outcome.End.TheVariants.{Full}
-use Rattle.tcreplay.specs.Tasks.{Schedule, InTurn, ByFile, ByThreads}
+use Rattle.tcreplay.specs.Tasks.{Schedule, ByThreads}
 use Rattle.tcreplay.specs.Machines.{Machine}
-use Rattle.tcreplay.specs.Verdict.{Job, order_of_job}
+use Rattle.tcreplay.specs.Verdict.{Job, order_by}
 
 -- The order of a run whose first picks are those of worker threads is these, completed: behind them the thread of the
 -- earliest call in trace order that hasn't ended is picked.
 abbrev pub IsCompleted : Machine → Schedule → Job → List ℕ → Type 0
-IsCompleted m InTurn job order = Unit {0}
-IsCompleted m (ByFile file) job order = Unit {0}
 IsCompleted m (ByThreads locks) job order = order ≡ completed (m.rules job.input) (turns job.input.asked) job.input.asked.config.events job.picks
+IsCompleted m schedule job order = Unit {0}
 
--- as many picks moved as may, which is the number told, and one pick more would move
-pub record IsFull {P L : Type 0} (r : Rules P L) (events : ℕ) (order : List ℕ) (ticket : ℕ) : Type 0 where
-  pub limit : ticket ≡ events
-  pub full : length order ≡ ticket
-  pub thread : ℕ
-  pub would_move : stepped r (run r order) thread ≡ step.Moved
-
+-- where a run stands at its limit, as many picks moved as may, which is the number told, and one pick more would move
 abbrev pub IsFilled : {P L : Type 0} → (Input → Rules P L) → Input → End → List ℕ → Type 0
-IsFilled rules input (Full ticket) order = IsFull (rules input) input.asked.config.events order ticket
+IsFilled rules input (Full ticket) order =
+    (ticket ≡ input.asked.config.events) × (length order ≡ ticket) × ((thread : ℕ) × (stepped (rules input) (run (rules input) order) thread ≡ step.Moved))
 IsFilled rules input end order = Unit {0}
 
 pub record IsOrderOf (m : Machine) (schedule : Schedule) (job : Job) (end : End) (order : List ℕ) : Type 0 where
-  pub whole : order ≡ order_of_job m job
+  pub whole : order ≡ order_by m.rules job
   pub completed : IsCompleted m schedule job order
   pub filled : IsFilled m.rules job.input end order

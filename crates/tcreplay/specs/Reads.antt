@@ -2,6 +2,7 @@
 -- or a call of an end failed, or memory ran out.
 use Rattle.std.specs.Prelude.{◌≡◌, ℕ, ◌+◌, ◌<◌, ◌≤◌, ◌⊎◌, Bool, true, false, List, [], length, All, Option, Some, None, Result, Ok, Err, IsOk, IsErr, IsSome, IfSome, MatchResult, Vec}
 use Rattle.std.specs.Global.{Global}
+use Rattle.std.specs.Option.{option_map_or}
 use Rattle.std.specs.FinMap.{get}
 use Rattle.tc_units.specs.declared.spans.ClassRow.{ClassRow}
 use Rattle.tc_model.specs.Input.{Asked, Input}
@@ -20,7 +21,7 @@ use Rattle.tcreplay.specs.declared.outcome.End.{End}
 use Rattle.tcreplay.specs.declared.outcome.End.TheVariants.{Done, BadTrace, ReadFault, WriteFault, Memory, TooLong, Full, BadOrder, FileFault, AuditNo}
 use Rattle.tcreplay.specs.declared.input.Job.{Job}
 use Rattle.tcreplay.specs.Machines.{Machine, machine_of}
-use Rattle.tcreplay.specs.Tasks.{Front, Replay, Schedule, InTurn, ByFile, ByThreads, file_of}
+use Rattle.tcreplay.specs.Tasks.{Front, Replay, Schedule, ByThreads, file_of}
 use Rattle.tcreplay.specs.Verdict.{Given, trace_limit, rows_in, asked_in, picks_in, job_of, and_then}
 use Rattle.tcreplay.specs.Verdict as verdict
 
@@ -75,16 +76,6 @@ abbrev pub most_gone : End → ℕ
 most_gone (TooLong limit) = trace_limit + 1
 most_gone end = trace_limit
 
--- whether an end comes behind the last byte of the trace
-abbrev pub is_behind_trace : End → Bool
-is_behind_trace Done = true
-is_behind_trace WriteFault = true
-is_behind_trace (Full ticket) = true
-is_behind_trace (BadTrace line why) = true
-is_behind_trace (BadOrder line why) = true
-is_behind_trace (AuditNo line why) = true
-is_behind_trace end = false
-
 -- whether an end comes behind all that is read: behind a run, or behind the judgement of a journal
 abbrev pub is_behind_run : End → Bool
 is_behind_run Done = true
@@ -92,6 +83,12 @@ is_behind_run WriteFault = true
 is_behind_run (Full ticket) = true
 is_behind_run (AuditNo line why) = true
 is_behind_run end = false
+
+-- whether an end comes behind the last byte of the trace
+abbrev pub is_behind_trace : End → Bool
+is_behind_trace (BadTrace line why) = true
+is_behind_trace (BadOrder line why) = true
+is_behind_trace end = is_behind_run end
 
 -- the trace that was left gave what it asks for under these rows, of the machine that is to run it, where one is
 pub record IsTraceRead (runner : Option Front) (rows : List ClassRow) (before after : Reading) (result : Result Trace End) : Type 0 where
@@ -111,10 +108,8 @@ pub record IsMadeOf (m : Machine) (input : Input) (picks : List ℕ) : Type 0 wh
 
 -- the picks that came from worker threads; where none are asked for, there are none
 abbrev pub HaveCome : Machine → Schedule → Result verdict.Job End → List ℕ → Type 0
-HaveCome m InTurn job picks = picks ≡ []
-HaveCome m (ByFile order) job picks = picks ≡ []
 HaveCome m (ByThreads locks) (Ok job) picks = IsMadeOf m job.input picks
-HaveCome m (ByThreads locks) (Err end) picks = picks ≡ []
+HaveCome m schedule job picks = picks ≡ []
 
 -- what the inputs gave is what they tell, where they tell it: the class table, the trace, and the file that is loaded
 -- behind it, where one is named
@@ -141,35 +136,24 @@ CutOff runner given t u f g ReadFault = Rose t.faults u.faults × IsOk (rows_in 
 CutOff runner given t u f g FileFault = Rose f.faults g.faults × (((g.loads ≡ one_more f.loads) × (u ≡ t)) ⊎ IsOk (asked_by runner given))
 CutOff runner given t u f g end = ⊥
 
--- a further file was loaded behind the class table: one is named, and the trace was good and read to its end
-pub record IsFileLoaded (runner : Option Front) (file : Option (List ℕ)) (given : Given) (u : Reading) (f g : Shelving) : Type 0 where
-  pub twice : g.loads ≡ one_more (one_more f.loads)
-  pub named : IsSome file
-  pub good : IsOk (asked_by runner given)
-  pub drained : IfSome u.left (λ rest. rest ≡ [])
-
--- how often files were loaded where all was: the class table once, and a further file once where one is named
-abbrev pub loads_behind : Option (List ℕ) → ℕ → ℕ
-loads_behind None loads = one_more loads
-loads_behind (Some name) loads = one_more (one_more loads)
-
 -- the ends of a further file, where class table and trace are good: it isn't there, or it is too long
 abbrev pub is_of_file : End → Bool
 is_of_file FileFault = true
 is_of_file (TooLong limit) = true
 is_of_file end = false
 
--- all was read: the trace to its end, and each file
+-- all was read: the trace to its end, the class table, and a further file where one is named
 pub record IsAllRead (file : Option (List ℕ)) (u : Reading) (f g : Shelving) : Type 0 where
   pub drained : IfSome u.left (λ rest. rest ≡ [])
-  pub loads : g.loads ≡ loads_behind file f.loads
+  pub loads : g.loads ≡ option_map_or (λ name. one_more (one_more f.loads)) file (one_more f.loads)
 
 -- What was read at an end, where a further file is named or none: each input once at most, up to its limit, and not before
--- its step; behind a run or an audit, and where the further file ends the work, all was read. A count of faults rose only
--- where that is the end.
+-- its step: a second load is that of a named file, behind a good trace that was read to its end. Behind a run or an audit,
+-- and where the further file ends the work, all was read. A count of faults rose only where that is the end.
 pub record HasRead (runner : Option Front) (file : Option (List ℕ)) (given : Given) (t u : Reading) (f g : Shelving) (end : End) : Type 0 where
   pub files : g.files ≡ f.files
-  pub loads : (g.loads ≡ one_more f.loads) ⊎ IsFileLoaded runner file given u f g
+  pub loads : (g.loads ≡ one_more f.loads)
+      ⊎ ((g.loads ≡ one_more (one_more f.loads)) × IsSome file × IsOk (asked_by runner given) × IfSome u.left (λ rest. rest ≡ []))
   pub behind_run : is_behind_run end ≡ true → IsAllRead file u f g
   pub behind_file : is_of_file end ≡ true → IsOk (asked_by runner given) → (Rose f.faults g.faults → ⊥) → IsAllRead file u f g
   pub file_count : IsCounted FileFault end f.faults g.faults

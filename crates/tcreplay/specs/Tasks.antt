@@ -17,14 +17,12 @@ pub data Schedule : Type 0 where
   ByThreads : Locks → Schedule
 
 abbrev pub file_of : Schedule → Option (List ℕ)
-file_of InTurn = None
 file_of (ByFile order) = Some order
-file_of (ByThreads locks) = None
+file_of other = None
 
 abbrev pub locks_in : Schedule → Option Locks
-locks_in InTurn = None
-locks_in (ByFile order) = None
 locks_in (ByThreads locks) = Some locks
+locks_in other = None
 
 -- the replay of a trace: what serves small objects, the file of the class table, which picks come first, whether the
 -- rows are printed, and at each how many bytes of requests an allocation is sampled, if any is

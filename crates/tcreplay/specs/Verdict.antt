@@ -2,8 +2,9 @@
 -- either ends the work or gives what the next one needs.
 use Rattle.std.specs.Prelude.{ℕ, Bool, nat_lt, List, [], ◌++◌, length, is_none, Option, Some, None, Result, Ok, Err, if◌then◌else◌}
 use Rattle.std.specs.List.{list_all}
+use Rattle.std.specs.Option.{option_map_or}
+use Rattle.std.specs.Result.{result_map_both}
 use Rattle.tc_units.specs.declared.spans.ClassRow.{ClassRow}
-use Rattle.tc_units.specs.declared.rows.RowView.{RowView}
 use Rattle.tc_model.specs.declared.answers.Finished.{Finished}
 use Rattle.tc_model.specs.Input.{Input, Asked, scripts_of}
 use Rattle.tc_model.specs.Run.{Rules, World, run}
@@ -11,10 +12,8 @@ use Rattle.tc_model.specs.Serial.{order_of}
 use Rattle.size_classes.specs.declared.fault.TableFault.{TableFault}
 use Rattle.size_classes.specs.declared.fault.TableFault.TheVariants as table
 use Rattle.size_classes.specs.Table.{table_of}
-use Rattle.trace_reader.specs.declared.why.LineWhy.{LineWhy}
 use Rattle.trace_reader.specs.declared.why.LineWhy.TheVariants.{NotHere}
-use Rattle.trace_reader.specs.declared.why.OrderWhy.{OrderWhy}
-use Rattle.trace_reader.specs.Reading.{BadLine, asked_by}
+use Rattle.trace_reader.specs.Reading.{asked_by}
 use Rattle.trace_reader.specs.Orders.{picks_by}
 use Rattle.alloc_rules.specs.Machine.{turns}
 use Rattle.tc_machine.specs.Taken.{refused_line}
@@ -32,11 +31,6 @@ use Rattle.tcreplay.specs.Machines.{Machine, machine_of}
 abbrev pub and_then : {A B : Type 0} → (A → Result B End) → Result A End → Result B End
 and_then next (Ok given) = next given
 and_then next (Err end) = Err end
-
--- what a reader gave, or the end that its fault is
-abbrev pub or_end : {A F : Type 0} → (F → End) → Result A F → Result A End
-or_end end_of (Ok given) = Ok given
-or_end end_of (Err fault) = Err (end_of fault)
 
 -- the most bytes of a class table, and of a trace, an order file or a journal
 abbrev pub table_limit : ℕ
@@ -60,37 +54,26 @@ table_end (table.BadRow row why) = BadTable row why
 table_end table.Memory = Memory
 
 abbrev pub rows_in : Option (List ℕ) → Result (List ClassRow) End
-rows_in file = and_then (λ bytes. or_end table_end (table_of bytes)) (file_within table_limit file)
+rows_in file = and_then (λ bytes. result_map_both (λ rows. rows) table_end (table_of bytes)) (file_within table_limit file)
 
 -- the trace: what it asks for, or its first bad line
-abbrev pub trace_end : BadLine LineWhy → End
-trace_end bad = BadTrace bad.line bad.why
-
 abbrev pub asked_of_text : List ClassRow → List ℕ → Result Asked End
-asked_of_text rows text = or_end trace_end (asked_by (length rows) text)
+asked_of_text rows text = result_map_both (λ asked. asked) (λ bad. BadTrace bad.line bad.why) (asked_by (length rows) text)
 
 -- of which a machine that is to run it takes each call, or the first that it doesn't take ends the work; no machine runs
 -- the trace of a journal
-abbrev pub unless_refused : Asked → Option ℕ → Result Asked End
-unless_refused asked None = Ok asked
-unless_refused asked (Some line) = Err (BadTrace line NotHere)
-
 abbrev pub taken_by : Option Front → Asked → Result Asked End
 taken_by None asked = Ok asked
-taken_by (Some front) asked = unless_refused asked (refused_line (machine_of front).takes (scripts_of asked))
-
-abbrev pub asked_for : Option Front → List ClassRow → List ℕ → Result Asked End
-asked_for runner rows text = and_then (taken_by runner) (asked_of_text rows text)
+taken_by (Some front) asked =
+    option_map_or (λ line. Err (BadTrace line NotHere)) (refused_line (machine_of front).takes (scripts_of asked)) (Ok asked)
 
 abbrev pub asked_in : Option Front → List ClassRow → List ℕ → Result Asked End
-asked_in runner rows bytes = and_then (asked_for runner rows) (within trace_limit bytes)
+asked_in runner rows bytes = and_then (λ text. and_then (taken_by runner) (asked_of_text rows text)) (within trace_limit bytes)
 
 -- the order file: the thread of each of its picks, or its first bad line
-abbrev pub order_end : BadLine OrderWhy → End
-order_end bad = BadOrder bad.line bad.why
-
 abbrev pub picks_in : ℕ → Option (List ℕ) → Result (List ℕ) End
-picks_in threads file = and_then (λ bytes. or_end order_end (picks_by threads bytes)) (file_within trace_limit file)
+picks_in threads file =
+    and_then (λ bytes. result_map_both (λ picks. picks) (λ bad. BadOrder bad.line bad.why) (picks_by threads bytes)) (file_within trace_limit file)
 
 -- what was given: the class table, the trace, the file that is loaded behind it (an order file, or a journal), and the
 -- picks that worker threads made; a file that isn't there is None
@@ -109,12 +92,10 @@ pub record Job : Type 0 where
   pub input : Input
   pub picks : List ℕ
 
-abbrev pub picks_or : Option (List ℕ) → ℕ → Option (List ℕ) → List ℕ → Result (List ℕ) End
-picks_or None threads file came = Ok came
-picks_or (Some name) threads file came = picks_in threads file
-
 abbrev pub job_with : Replay → Given → List ClassRow → Asked → Result Job End
-job_with replay given rows asked = and_then (λ picks. Ok (record { input = record { rows = rows; asked = asked }; picks = picks })) (picks_or (file_of replay.schedule) asked.config.threads given.file given.came)
+job_with replay given rows asked =
+    and_then (λ picks. Ok (record { input = record { rows = rows; asked = asked }; picks = picks }))
+    (option_map_or (λ name. picks_in asked.config.threads given.file) (file_of replay.schedule) (Ok given.came))
 
 abbrev pub job_of : Replay → Given → Result Job End
 job_of replay = read_of (Some replay.front) (job_with replay)
@@ -129,17 +110,14 @@ pub record Verdict : Type 0 where
 abbrev pub refused : End → Verdict
 refused end = record { end = end; order = []; text = [] }
 
--- the text of a run that has ended, with or without a line for each hugepage, and with or without the profile of the
--- allocations that are sampled
-abbrev pub rows_if : Bool → List RowView → List RowView
-rows_if told rows = if told then rows else []
-
+-- the profile of the allocations that are sampled, where some are
 abbrev pub profile_if : Option ℕ → List CallLine → List ℕ
 profile_if None calls = []
 profile_if (Some step) calls = profile_of_calls step calls
 
+-- the text of a run that has ended, with or without a line for each hugepage, and with or without a profile
 abbrev pub text_with : Bool → Option ℕ → Finished → List ℕ
-text_with rows sample f = text_of f.calls f.live f.live_bytes f.used f.resident (rows_if rows f.rows) ++ profile_if sample f.calls
+text_with rows sample f = text_of f.calls f.live f.live_bytes f.used f.resident (if rows then f.rows else []) ++ profile_if sample f.calls
 
 -- the last five lines of a text without hugepages
 abbrev pub summary_in : Finished → List ℕ
@@ -168,12 +146,6 @@ module _ {P L : Type 0} (rules : Input → Rules P L) where
       else record { end = Full input.asked.config.events; order = order; text = [] }
 
 -- over a machine
-abbrev pub order_of_job : Machine → Job → List ℕ
-order_of_job m = order_by m.rules
-
-abbrev pub judged : Machine → Telling → Input → List ℕ → Verdict
-judged m = judged_by m.rules m.told
-
 abbrev pub run_verdict : Machine → Telling → Result Job End → Verdict
 run_verdict m telling (Err end) = refused end
-run_verdict m telling (Ok job) = judged m telling job.input (order_of_job m job)
+run_verdict m telling (Ok job) = judged_by m.rules m.told telling job.input (order_by m.rules job)

@@ -1,7 +1,8 @@
 -- The grammar of the command line.
-use Rattle.std.specs.Prelude.{ℕ, Bool, true, false, ◌==◌, nat_le, List, [], ◌∷◌, Option, Some, None, if◌then◌else◌, option_map, option_and_then, unwrap_or, codes}
+use Rattle.std.specs.Prelude.{ℕ, Bool, true, false, ◌==◌, List, [], ◌∷◌, Option, Some, None, if◌then◌else◌, option_map, option_and_then, unwrap_or, codes}
 use Rattle.std.specs.Str.{bytes_eq}
-use Rattle.tc_units.specs.Decimal.{number_of}
+use Rattle.trace_reader.specs.Words.{from_to}
+use Rattle.trace_reader.specs.Form.{number_in}
 use Rattle.tcreplay.specs.declared.task.Locks.{Locks}
 use Rattle.tcreplay.specs.declared.task.Locks.TheVariants.{One, Parts}
 use Rattle.tcreplay.specs.Tasks.{Front, Cpus, Threads, Nodes, Schedule, InTurn, ByFile, ByThreads, Task, ToReplay, ToGenerate, ToAudit}
@@ -18,10 +19,6 @@ name_of (c ∷ cs) = if c == 45 then None else Some (c ∷ cs)
 -- the words for the locks of workers
 abbrev pub locks_of : List ℕ → Option Locks
 locks_of word = if bytes_eq word (codes "one") then Some One else (if bytes_eq word (codes "parts") then Some Parts else None)
-
--- a canonical decimal from one number to another
-abbrev pub number_in : ℕ → ℕ → List ℕ → Option ℕ
-number_in least most word = option_and_then (λ n. if nat_le least n then Some n else None) (number_of most word)
 
 -- the commands
 abbrev pub kind_of : List ℕ → Option Kind
@@ -100,15 +97,15 @@ once (Some earlier) value = None
 -- the options with one more, and its value
 abbrev pub with_value : Options → Flag → List ℕ → Option Options
 with_value so flag.Classes word = option_map (λ name. record so { classes = Some name }) (once so.classes (name_of word))
-with_value so flag.Nodes word = option_map (λ n. record so { nodes = Some n }) (once so.nodes (number_in 1 8 word))
+with_value so flag.Nodes word = option_map (λ n. record so { nodes = Some n }) (once so.nodes (number_in (from_to 1 8) word))
 with_value so flag.Order word = option_map (λ name. record so { order = Some name }) (once so.order (name_of word))
 with_value so flag.Locks word = option_map (λ locks. record so { locks = Some locks }) (once so.locks (locks_of word))
 with_value so flag.Workers word = None
 with_value so flag.Rows word = None
-with_value so flag.Sample word = option_map (λ n. record so { sample = Some n }) (once so.sample (number_in 1 1073741824 word))
-with_value so flag.Seed word = option_map (λ n. record so { seed = Some n }) (once so.seed (number_in 0 2147483647 word))
-with_value so flag.Calls word = option_map (λ n. record so { calls = Some n }) (once so.calls (number_in 1 500000 word))
-with_value so flag.Threads word = option_map (λ n. record so { threads = Some n }) (once so.threads (number_in 1 64 word))
+with_value so flag.Sample word = option_map (λ n. record so { sample = Some n }) (once so.sample (number_in (from_to 1 1073741824) word))
+with_value so flag.Seed word = option_map (λ n. record so { seed = Some n }) (once so.seed (number_in (from_to 0 2147483647) word))
+with_value so flag.Calls word = option_map (λ n. record so { calls = Some n }) (once so.calls (number_in (from_to 1 500000) word))
+with_value so flag.Threads word = option_map (λ n. record so { threads = Some n }) (once so.threads (number_in (from_to 1 64) word))
 with_value so flag.Journal word = option_map (λ name. record so { journal = Some name }) (once so.journal (name_of word))
 
 -- the options with one more that has no value
@@ -137,14 +134,11 @@ options_of kind so (word ∷ value ∷ words) =
     else option_and_then (λ more. options_of kind more words) (with_value so flag value)) (taken_flag kind word)
 
 -- the picks that come first on a machine that takes an order file or worker threads, and not both
-abbrev pub schedule_with : Bool → Option (List ℕ) → Option Schedule
-schedule_with false None = Some InTurn
-schedule_with true None = Some (ByThreads Parts)
-schedule_with false (Some order) = Some (ByFile order)
-schedule_with true (Some order) = None
-
-abbrev pub schedule_by : Options → Option Schedule
-schedule_by so = schedule_with so.workers so.order
+abbrev pub schedule_by : Bool → Option (List ℕ) → Option Schedule
+schedule_by false None = Some InTurn
+schedule_by true None = Some (ByThreads Parts)
+schedule_by false (Some order) = Some (ByFile order)
+schedule_by true (Some order) = None
 
 -- the replay of a command with its options
 abbrev pub replay_with : Options → Front → List ℕ → Schedule → Task
@@ -156,15 +150,15 @@ abbrev pub task_under : Kind → Options → List ℕ → Option Task
 task_under kind.Serial so classes = Some (replay_with so Cpus classes InTurn)
 task_under kind.Order so classes = option_map (λ order. replay_with so Cpus classes (ByFile order)) so.order
 task_under kind.Workers so classes = Some (replay_with so Cpus classes (ByThreads (unwrap_or so.locks Parts)))
-task_under kind.PerThread so classes = option_map (replay_with so Threads classes) (schedule_by so)
-task_under kind.Numa so classes = option_and_then (λ nodes. option_map (replay_with so (Nodes nodes) classes) (schedule_by so)) so.nodes
-task_under kind.Gen so classes = option_and_then (λ seed. option_and_then (λ calls. option_map (λ threads. ToGenerate (record { classes = classes; seed = seed; calls = calls; threads = threads })) so.threads) so.calls) so.seed
+task_under kind.PerThread so classes = option_map (replay_with so Threads classes) (schedule_by so.workers so.order)
+task_under kind.Numa so classes = option_and_then (λ nodes. option_map (replay_with so (Nodes nodes) classes) (schedule_by so.workers so.order)) so.nodes
+task_under kind.Gen so classes =
+    option_and_then (λ seed. option_and_then (λ calls. option_map (λ threads. ToGenerate (record { classes = classes; seed = seed; calls = calls; threads = threads }))
+    so.threads) so.calls) so.seed
 task_under kind.Audit so classes = option_map (λ journal. ToAudit (record { classes = classes; journal = journal })) so.journal
-
-abbrev pub task_with : Kind → Options → Option Task
-task_with kind so = option_and_then (task_under kind so) so.classes
 
 -- what the words ask for, where they are in the grammar
 abbrev pub task_by : List (List ℕ) → Option Task
 task_by [] = None
-task_by (word ∷ words) = option_and_then (λ kind. option_and_then (task_with kind) (options_of kind no_options words)) (kind_of word)
+task_by (word ∷ words) =
+    option_and_then (λ kind. option_and_then (λ so. option_and_then (task_under kind so) so.classes) (options_of kind no_options words)) (kind_of word)

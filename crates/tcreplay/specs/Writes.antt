@@ -1,11 +1,12 @@
 -- What a call writes, and at which ends.
-use Rattle.std.specs.Prelude.{◌≡◌, ℕ, ◌⊎◌, List}
+use Rattle.std.specs.Prelude.{◌≡◌, ℕ, ◌⊎◌, List, []}
 use Rattle.tc_ports.specs.Faults.{one_more, Rose}
 use Rattle.tc_ports.specs.Told.{Took, TookPart}
 use Rattle.tc_ports.specs.Ends.{Reading, Shelving, Writing}
 use Rattle.tcreplay.specs.declared.outcome.End.{End}
 use Rattle.tcreplay.specs.declared.outcome.End.TheVariants.{Done, WriteFault, Full}
 use Rattle.tcreplay.specs.Notes.{note_of}
+use Rattle.tcreplay.specs.Verdict.{Verdict}
 
 -- all ends of a program, at a moment
 pub record Ends : Type 0 where
@@ -45,3 +46,10 @@ IsRunEnd end = ⊥
 -- the end of a run stays, unless its text couldn't be written
 abbrev pub IsLastEnd : End → End → Type 0
 IsLastEnd ran end = (end ≡ ran) ⊎ ((end ≡ WriteFault) × (ran ≡ Done))
+
+-- The answer is the verdict; or something cut the work off before a run; or a text that was to be written wasn't taken.
+abbrev pub IsAnswer : Verdict → Type 0 → End → List ℕ → Type 0
+IsAnswer verdict cut_off end order =
+    ((end ≡ verdict.end) × (order ≡ verdict.order))
+    ⊎ (((order ≡ []) × cut_off)
+    ⊎ ((end ≡ WriteFault) × (order ≡ verdict.order) × (verdict.end ≡ Done)))

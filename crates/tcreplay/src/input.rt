@@ -5,7 +5,7 @@ ghost use Rattle.std.specs.Global.{Global as Memory};
 ghost use Rattle.tc_units.specs.declared.spans.ClassRow.{ClassRow};
 ghost use Rattle.tc_machine.specs.Inputs.{IsRead, asked_of};
 ghost use Rattle.tcreplay.specs.Seen.{seen_front, seen_replay};
-ghost use Rattle.tcreplay.specs.Verdict.{file_within, rows_in, asked_of_text, asked_for, picks_in};
+ghost use Rattle.tcreplay.specs.Verdict.{and_then, file_within, rows_in, asked_of_text, taken_by, picks_in};
 ghost use Rattle.tcreplay.specs.Reads.{load_end, IsLoad, ArePicks, IsPure, IsTraceRead, IsTakenBy, IsRunnable, IsJobRead, AreRead};
 ghost use Rattle.tcreplay.specs.Auditing.{seen_case, case_in};
 
@@ -92,7 +92,7 @@ fn trace_for(
     table: &ClassTable,
     text: &[u8],
 ) -> Result<Trace, End>
-    ensures asked { IsPure asked_of (asked_for (option_map seen_front runner) table.now text.now) result }
+    ensures asked { IsPure asked_of (and_then (taken_by (option_map seen_front runner)) (asked_of_text table.now text.now)) result }
     ensures read { IfOk result (λ trace. IsRead (length table.now) trace (asked_of trace)) }
     ensures taken { IfOk result (IsTakenBy (option_map seen_front runner)) }
 {

@@ -5,7 +5,7 @@ ghost use Rattle.tc_machine.specs.Inputs.{asked_of};
 ghost use Rattle.tc_machine.specs.Taken.{refused_line};
 ghost use Rattle.tcreplay.specs.Machines.{machine_of, locks_for};
 ghost use Rattle.tcreplay.specs.Seen.{seen_front};
-ghost use Rattle.tcreplay.specs.Verdict.{order_of_job};
+ghost use Rattle.tcreplay.specs.Verdict.{order_by};
 ghost use Rattle.tcreplay.specs.Reads.{seen_job, IsRunnable};
 ghost use Rattle.tcreplay.specs.Ran.{HasStep, IsRan, IsRanByThreads};
 
@@ -52,7 +52,7 @@ impl Front {
         requires runs { IsRunnable job }
         requires step { HasStep telling }
         requires taken { not_taken (machine_of (seen_front self)).takes (asked_of job.trace).calls ≡ 0 }
-        ensures { IfOk result (IsRan (machine_of (seen_front self)) telling (seen_job job).input (order_of_job (machine_of (seen_front self)) (seen_job job))) }
+        ensures { IfOk result (IsRan (machine_of (seen_front self)) telling (seen_job job).input (order_by (machine_of (seen_front self)).rules (seen_job job))) }
     {
         match self {
             Front::Cpus => run::<CpuMachine>(alloc, (), job, telling),

@@ -1,5 +1,5 @@
 //! Running a job: the order of its picks that moved, and the text of what the run came to.
-ghost use Rattle.std.specs.Prelude.{◌≡◌, ◌≤◌, ◌++◌, ℕ, List, All, IfOk, IfErr, IfSome, IsOk, OnOk};
+ghost use Rattle.std.specs.Prelude.{◌≡◌, ◌≤◌, ◌++◌, ℕ, List, [], All, IfOk, IfErr, IfSome, IsOk, OnOk, if◌then◌else◌};
 ghost use Rattle.tc_units.specs.Classes.{length_of};
 ghost use Rattle.tc_model.specs.Blocks.{IsBlockRun};
 ghost use Rattle.tc_model.specs.Replays.{HaveEnded};
@@ -11,7 +11,7 @@ ghost use Rattle.alloc_rules.specs.Told.{TellsScripts};
 ghost use Rattle.tc_machine.specs.Inputs.{asked_of};
 ghost use Rattle.tc_machine.specs.Played.{told_at, world};
 ghost use Rattle.usage_report.specs.Report.{IsTellable};
-ghost use Rattle.tcreplay.specs.Verdict.{profile_if, rows_if, summary_in, text_with, told_by, order_by};
+ghost use Rattle.tcreplay.specs.Verdict.{profile_if, summary_in, text_with, told_by, order_by};
 ghost use Rattle.tcreplay.specs.Reads.{seen_job, IsRunnable};
 ghost use Rattle.tcreplay.specs.Ran.{AreTellable, HasStep, IsRunOf};
 ghost use Rattle.tcreplay.specs.declared.run.Telling.{Telling};
@@ -66,7 +66,7 @@ fn summary_of(totals: &Totals) -> Summary
 
 /// The arena's hugepages, where they are told.
 fn rows_if(told: bool, totals: &Totals) -> &[RowView]
-    ensures { result.now ≡ rows_if told totals.now.rows }
+    ensures { result.now ≡ (if told then totals.now.rows else []) }
 {
     if told { totals.rows.as_slice() } else { &[] }
 }

@@ -1,7 +1,9 @@
 //! The grammar of the command line: this project's own rule.
 ghost use Rattle.std.specs.Prelude.{◌≡◌, IfSome, Some, None, map, option_map, option_and_then, string_bytes};
 ghost use Rattle.tcreplay.specs.Tasks.{ToReplay, IsTask};
-ghost use Rattle.tcreplay.specs.Words.{name_of, locks_of, number_in, kind_of, flag_of, takes, taken_flag, is_switch, no_options, once, with_value, with_switch, options_of, schedule_by, task_with, task_by};
+ghost use Rattle.trace_reader.specs.Words.{from_to};
+ghost use Rattle.trace_reader.specs.Form.{number_in};
+ghost use Rattle.tcreplay.specs.Words.{name_of, locks_of, kind_of, flag_of, takes, taken_flag, is_switch, no_options, once, with_value, with_switch, options_of, schedule_by, task_under, task_by};
 ghost use Rattle.numa_heaps.specs.declared.nodes.Nodes.{Nodes as Count};
 ghost use Rattle.tcreplay.specs.Seen.{seen, seen_front, seen_schedule, seen_task};
 
@@ -82,14 +84,14 @@ fn name_of(word: &str) -> Option<&str>
 
 /// A canonical decimal from one number to another.
 fn number_in(word: &str, least: u64, most: u64) -> Option<u64>
-    ensures { result ≡ number_in least most word.now }
+    ensures { result ≡ number_in (from_to least most) word.now }
 {
     number(word.as_bytes(), most).filter(|n| least <= *n)
 }
 
 /// How many memory nodes a word says.
 fn nodes_in(word: &str) -> Option<Nodes>
-    ensures { option_map (λ (nodes : Count). nodes.count) result ≡ number_in 1 8 word.now }
+    ensures { option_map (λ (nodes : Count). nodes.count) result ≡ number_in (from_to 1 8) word.now }
 {
     let count = number_in(word, 1, MOST_NODES)?;
     Nodes::new(count as u8)
@@ -259,7 +261,7 @@ impl<'a> Options<'a> {
 
     /// The picks that come first on a machine that takes an order file or worker threads, and not both.
     fn schedule(self) -> Option<Schedule<'a>>
-        ensures { option_map seen_schedule result ≡ schedule_by (seen self.entry) }
+        ensures { option_map seen_schedule result ≡ schedule_by (seen self.entry).workers (seen self.entry).order }
     {
         match self.order {
             None if self.workers => Some(Schedule::ByThreads {
@@ -288,7 +290,7 @@ impl<'a> Options<'a> {
 
     /// What a command with these options asks for: all that it needs are there.
     fn task(self, kind: Kind) -> Option<Task<'a>>
-        ensures { option_map seen_task result ≡ task_with kind (seen self.entry) }
+        ensures { option_map seen_task result ≡ option_and_then (task_under kind (seen self.entry)) (seen self.entry).classes }
     {
         let classes = self.classes?;
         match kind {

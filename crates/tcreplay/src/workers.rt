@@ -5,7 +5,7 @@ ghost use Rattle.tc_model.specs.declared.board.Halt.TheVariants as halts;
 ghost use Rattle.tc_model.specs.Run.{start};
 ghost use Rattle.tc_model.specs.Chains.{IsPolite};
 ghost use Rattle.cpu_rows.specs.Machine as allocator;
-ghost use Rattle.relay.specs.Ends.{IsRun, threads_in};
+ghost use Rattle.relay.specs.Ends.{IsRun};
 ghost use Rattle.trace_reader.specs.Valid.{IsAsked};
 ghost use Rattle.alloc_rules.specs.Inputs.{not_taken};
 ghost use Rattle.tc_machine.specs.Inputs.{asked_of};
@@ -25,7 +25,7 @@ use std::alloc::{AllocError, Global};
 use std::sync::Wait;
 use std::thread::Threads;
 use tc_machine::{Allocator, State};
-use tc_model::{Entry, Halt, Turn};
+use tc_model::{Halt, Turn};
 use tc_ports::Gate;
 use world_lock::Left;
 
@@ -38,16 +38,6 @@ fn unless_memory(halt: Option<Halt>) -> Result<(), AllocError>
         Some(Halt::Memory) => Err(AllocError),
         Some(Halt::Full) | None => Ok(()),
     }
-}
-
-/// The threads of entries, in their order.
-fn threads_in(alloc: Global, entries: &[Entry]) -> Result<Vec<u16>, AllocError>
-    ensures { IfOk result (λ threads. threads.items ≡ threads_in entries.now) }
-{
-    entries
-        .iter()
-        .map(|entry| u16::from(entry.thread.0))
-        .collect(alloc)
 }
 
 /// What worker threads left of a state: under which locks they ran, the last answer of each, and why one was halted, if
@@ -88,7 +78,7 @@ fn gathered<M: Allocator>(alloc: Global, left: Finish<M>) -> Result<Came<M>, All
     ensures enough { IfOk result (λ came. came.halt ≡ Some halts.Memory → ⊥) }
     ensures options { IfOk result (λ came. came.state.options ≡ M.options left.closed.machine) }
     ensures input { IfOk result (λ came. came.state.input ≡ M.input left.closed.machine) }
-    ensures order { IfOk result (λ came. came.state.order ≡ threads_in left.order.items) }
+    ensures order { IfOk result (λ came. came.state.order ≡ left.order.items) }
     ensures locks { IfOk result (λ came. came.locks ≡ Parts) }
     ensures lasts { IfOk result (λ came. came.lasts.items ≡ left.lasts.items) }
     ensures halt { IfOk result (λ came. came.halt ≡ left.halt) }
@@ -106,7 +96,6 @@ fn gathered<M: Allocator>(alloc: Global, left: Finish<M>) -> Result<Came<M>, All
         parts,
         entries: _,
     } = closed;
-    let order = threads_in(alloc, &order)?;
     let state = State::gather(alloc, machine, parts, locals, order);
     Ok(Came {
         state,

@@ -1,19 +1,19 @@
 -- The bytes of a cache, as objects come and go.
-use Rattle.std.proofs.Common.{◌≡◌, ℕ, ◌+◌, ◌-◌, ◌*◌, ◌/◌, ◌<◌, ◌≤◌, List, [], ◌∷◌, length, map, All, refl, sym, ap, ◌∙◌, min, arith, get_or}
+use Rattle.std.proofs.Common.{◌≡◌, ℕ, ◌+◌, ◌-◌, ◌*◌, ◌/◌, ◌<◌, ◌≤◌, List, [], ◌∷◌, length, map, sum_by, All, refl, sym, ap, ◌∙◌, min, arith, get_or}
 use Rattle.std.specs.List.{slice_set}
 use Rattle.std.proofs.Math.Nat.{mul_comm}
 use Rattle.std.proofs.lemmas.List.Sums.{sum_by-set, sum_by-cons, get_or-le-sum_by}
 use Rattle.std.proofs.lemmas.List.Elements.{All-set, All-get_or, All-map}
 use Rattle.tc_units.specs.declared.units.Addr.{Addr}
 use Rattle.tc_units.specs.declared.spans.ClassRow.{ClassRow}
-use Rattle.thread_cache.specs.Cache.{Stack, bytes_in, bytes_of, with_objects, empty_stack, IsCounted}
+use Rattle.thread_cache.specs.Cache.{Stack, bytes_in, empty_stack, IsCounted}
 
 -- objects of a size
 times : (size n m k : ℕ) → n ≡ m + k → size * n ≡ size * m + k * size
 times size n m k is = grind (arith, mul_comm)
 
 module _ (stacks : List Stack) (limit counted k : ℕ) (old new : Stack) (objects : List Addr) (low : k < length stacks) (at : old ≡ get_or stacks k old)
-    (is : IsCounted stacks limit counted) (made : new ≡ with_objects old objects) where
+    (is : IsCounted stacks limit counted) (made : new ≡ record old { objects = objects }) where
   -- a class has other objects, and the count is right for them
   recounted : (now : ℕ) → now + bytes_in old ≡ counted + old.size * length objects → now ≤ limit → IsCounted (slice_set stacks k new) limit now
   recounted now right within =
@@ -42,7 +42,7 @@ pub next_is_over : (limit counted n size room : ℕ) → counted ≤ limit → 0
 next_is_over limit counted n size room within some is below = grind (arith)
 
 -- an empty cache
-pub none : (rows : List ClassRow) → bytes_of (map empty_stack rows) ≡ 0
+pub none : (rows : List ClassRow) → sum_by bytes_in (map empty_stack rows) ≡ 0
 none [] = refl
 none (row ∷ rows) = grind (arith, none rows, sum_by-cons bytes_in (empty_stack row) (map empty_stack rows))
 

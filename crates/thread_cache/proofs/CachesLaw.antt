@@ -1,5 +1,5 @@
 -- The caches of threads meet the law of a front-end.
-use Rattle.std.proofs.Common.{◌≡◌, ℕ, zero, suc, ◌+◌, ◌*◌, ◌%◌, ◌<◌, ◌≤◌, get_or, List, [], ◌∷◌, length, map, Some, refl, sym, ap, ◌∙◌, subst, inl, inr, arith}
+use Rattle.std.proofs.Common.{◌≡◌, false, ℕ, zero, suc, ◌+◌, ◌*◌, ◌%◌, ◌<◌, ◌≤◌, get_or, List, [], ◌∷◌, length, map, Some, refl, sym, ap, ◌∙◌, subst, inl, inr, arith}
 use Rattle.std.specs.Prelude.{slice_get, slice_set}
 use Rattle.std.specs.List.{range_with_len}
 use Rattle.std.proofs.Math.Nat.{mul_comm, mul-le-mul_left}
@@ -20,15 +20,22 @@ use Rattle.alloc_rules.specs.FrontLaw.{IsReady, FitsAt, RefusesAs, idle, with_ha
 use Rattle.thread_cache.specs.declared.row.CacheRow.{CacheRow}
 use Rattle.thread_cache.specs.declared.row.CacheRow.TheVariants.{Pop, Stock, Add}
 use Rattle.thread_cache.specs.declared.seat.CacheSeat.{CacheSeat}
-use Rattle.thread_cache.specs.Cache.{Stack, Cache, empty_stack, no_stack, opened}
-use Rattle.thread_cache.specs.Rows.{about_row, cache_place, cache_acts, cache_calls, cache_refuses, cache_front}
-use Rattle.thread_cache.specs.Fits.{FitsRow, cache_fits}
-use Rattle.thread_cache.specs.Holds.{given_in, given_of, HandFor, limit_of, IsSeated, IsCacheOf, CachesHold}
+use Rattle.thread_cache.specs.Cache.{Stack, Cache, empty_stack, opened}
+use Rattle.thread_cache.specs.Rows.{about_row, cache_place, cache_acts, cache_calls, cache_front}
+use Rattle.thread_cache.specs.Fits.{FitsRow, FitsCache}
+use Rattle.thread_cache.specs.Holds.{given_at, HandAt, IsSeated, IsCacheOf, CachesHold}
 use Rattle.thread_cache.specs.Laws.{AreCacheLimits, CachesAreLawful}
 use Rattle.thread_cache.proofs.CacheFacts as facts
 use Rattle.thread_cache.proofs.Lists.{set_twice, set_once, sum_same, sum_none, made_at}
-use Rattle.thread_cache.proofs.Stacks.{classes}
+use Rattle.thread_cache.proofs.Stacks.{classes, no_stack}
 use Rattle.thread_cache.proofs.RowActs.{Leaves, next_low, next_apart, row_leaves}
+
+-- a cache's limit, and the bytes of limit that a thread has on the way
+abbrev limit_of : Cache → ℕ
+limit_of p = p.limit
+
+abbrev given_of : Standing CacheSeat CacheRow → ℕ
+given_of s = given_at s.at
 
 -- an empty cache
 sizes_first : (rows : List ClassRow) → map (λ (s : Stack). s.size) (map empty_stack rows) ≡ sizes_of rows
@@ -41,7 +48,7 @@ none_first n zero (row ∷ rows) = refl
 none_first n (suc k) (row ∷ rows) = none_first n k rows
 
 -- no row decides a call with an answer of its own
-refuses : (rows : List ClassRow) (p : Cache) (v : CacheSeat) (g : Regs) (row : CacheRow) → RefusesAs cache_refuses row (cache_acts rows p v g row).next
+refuses : (rows : List ClassRow) (p : Cache) (v : CacheSeat) (g : Regs) (row : CacheRow) → RefusesAs (λ r answer. false) row (cache_acts rows p v g row).next
 refuses rows p v g x4 = grind (arith)
 
 -- all of the caches stand before the shards
@@ -110,8 +117,8 @@ module _ (rows : List ClassRow) (c : Config) where
     place_low t v x2 own victim = grind (arith)
 
     -- and an act there fits
-    fits_row : (t : ℕ) (p : Cache) (g : Regs) (row : CacheRow) → IsReady (cache_front rows c) t g (about_row row) → HandFor g row
-        → p.limit + given_in row ≤ c.threads * c.percpu → FitsRow rows p g row
+    fits_row : (t : ℕ) (p : Cache) (g : Regs) (row : CacheRow) → IsReady (cache_front rows c) t g (about_row row) → HandAt g (Here row)
+        → p.limit + given_at (Here row) ≤ c.threads * c.percpu → FitsRow rows p g row
     fits_row t p g row ready hand sum = grind (arith, mul-le-mul_left, mul_comm)
 
     module _ (n : ℕ) (ps : List Cache) (us : List (Standing CacheSeat CacheRow)) (t : ℕ) (v : CacheSeat) (g : Regs) (count : ℕ) (row : CacheRow)
@@ -131,7 +138,7 @@ module _ (rows : List ClassRow) (c : Config) where
           fits_row t p g row ready seat.hand
           (omega (arith, least limit_of ps (cache_place v row) p at, least given_of us t (stand v g count (Here row)) own, h.limits))
 
-      is_ready : FitsAt (cache_front rows c) (cache_fits rows) ps v g row
+      is_ready : FitsAt (cache_front rows c) (FitsCache rows) ps v g row
       is_ready =
           let i : ℕ = cache_place v row in
           let d : Cache = opened rows 0 in

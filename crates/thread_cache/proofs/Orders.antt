@@ -8,7 +8,7 @@ use Rattle.alloc_rules.specs.Valid.{AreLimits}
 use Rattle.alloc_rules.proofs.CommonCalls.{valid_common}
 use Rattle.alloc_rules.proofs.Laws.{in_every_order}
 use Rattle.thread_cache.specs.Rows.{about_row, cache_front}
-use Rattle.thread_cache.specs.Fits.{cache_fits}
+use Rattle.thread_cache.specs.Fits.{FitsCache}
 use Rattle.thread_cache.specs.Holds.{CachesHold}
 use Rattle.thread_cache.specs.Laws.{AreCacheLimits, InEveryOrder}
 use Rattle.thread_cache.proofs.CachesLaw.{caches_law}
@@ -20,7 +20,7 @@ limits_of c are = record { threads = are.threads; few = are.few_threads; percpu 
 pub caches_in_every_order : InEveryOrder
 caches_in_every_order input valid none =
     let c = input.asked.config in
-    let law = in_every_order (cache_front input.rows c) about_row IsNotOwn (CachesHold input.rows c) (cache_fits input.rows)
+    let law = in_every_order (cache_front input.rows c) about_row IsNotOwn (CachesHold input.rows c) (FitsCache input.rows)
     (caches_law input.rows c valid.rows (limits_of c valid.limits)) input.asked (valid_common input valid none) in
     record {
       sound = law.sound;

@@ -28,10 +28,10 @@ use Rattle.alloc_rules.proofs.Counting.{objects_append, objects_cut, objects_las
 use Rattle.thread_cache.specs.declared.row.CacheRow.{CacheRow}
 use Rattle.thread_cache.specs.declared.row.CacheRow.TheVariants.{Pop, Stock, Add, Ask, Raise, AddAgain, Trim}
 use Rattle.thread_cache.specs.declared.seat.CacheSeat.{CacheSeat}
-use Rattle.thread_cache.specs.Cache.{Cache, bytes, objects_of, with_class, fitting, given}
+use Rattle.thread_cache.specs.Cache.{Cache, bytes, objects_of, with_class, fitting}
 use Rattle.thread_cache.specs.Rows.{about_row, next_cache, next_victim, popped, stocked, left_in, after_stock, after_add, after_again, after_ask}
 use Rattle.thread_cache.specs.Rows.{cache_acts, cache_front}
-use Rattle.thread_cache.specs.Holds.{given_in, given_at, HandAt, IsSeated, IsCacheOf}
+use Rattle.thread_cache.specs.Holds.{given_at, HandAt, IsSeated, IsCacheOf}
 use Rattle.thread_cache.proofs.Stacks.{of_class, of_other, classes, trimmed_is, added_is}
 
 -- the next cache is there
@@ -62,7 +62,7 @@ module _ (rows : List ClassRow) (c : Config) (are : AreRows rows) (t : ℕ) (p :
   pub record Leaves (row : CacheRow) (x : Left Cache CacheSeat CacheRow) : Type 0 where
     pub act : IsAct r about_row p g row x
     pub part : IsCacheOf rows x.part
-    pub limit : x.part.limit + given_at (at_next x.next) ≡ p.limit + given_in row
+    pub limit : x.part.limit + given_at (at_next x.next) ≡ p.limit + given_at (Here row)
     pub own : x.seat.own ≡ v.own
     pub caches : x.seat.caches ≡ v.caches
     pub victim : x.seat.victim < c.threads
@@ -79,11 +79,11 @@ module _ (rows : List ClassRow) (c : Config) (are : AreRows rows) (t : ℕ) (p :
     -- the class has other objects, and the hand has others
     moved : (kept : List Addr) (h : Contents Addr) (n : Next CacheRow) → IsCacheOf rows (with_class p k kept) → room h ≡ room g.hand
         → ((m : ℕ) → objects_at m kept + objects_at m h.items ≡ objects_at m (objects_of p k) + objects_at m g.hand.items)
-        → given_in row ≡ 0 → Behind row (record g { hand = h }) n 0 → Leaves row (leaving (with_class p k kept) v (record g { hand = h }) n)
+        → given_at (Here row) ≡ 0 → Behind row (record g { hand = h }) n 0 → Leaves row (leaving (with_class p k kept) v (record g { hand = h }) n)
     moved kept h n part same moves way b = grind (arith, of_other, of_class, there)
 
     -- what fits of the hand goes to the cache
-    stocks : (n : Next CacheRow) → given_in row ≡ 0 → Behind row (left_in p g) n 0 → Leaves row (leaving (stocked p g) v (left_in p g) n)
+    stocks : (n : Next CacheRow) → given_at (Here row) ≡ 0 → Behind row (left_in p g) n 0 → Leaves row (leaving (stocked p g) v (left_in p g) n)
     stocks n way b =
         let items : List Addr = g.hand.items in
         let m : ℕ = fitting p k (length items) in
@@ -118,7 +118,7 @@ module _ (rows : List ClassRow) (c : Config) (are : AreRows rows) (t : ℕ) (p :
   -- only the limit changes
   limited : (row : CacheRow) (q : ℕ) (w : CacheSeat) (n : Next CacheRow) → IsReady r t g (about_row row) → IsCacheOf rows p → bytes p ≤ q
       → w.own ≡ v.own → w.caches ≡ v.caches → w.victim < c.threads → (1 < c.threads → w.victim ≢ w.own) → (way : ℕ)
-      → Behind row g n way → q + way ≡ p.limit + given_in row
+      → Behind row g n way → q + way ≡ p.limit + given_at (Here row)
       → Leaves row (leaving (record p { limit = q }) w g n)
   limited row q w n ready is within own caches victim apart way b sum =
       record {

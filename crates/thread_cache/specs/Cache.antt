@@ -19,11 +19,8 @@ pub record Cache : Type 0 where
 abbrev pub bytes_in : Stack → ℕ
 bytes_in s = s.size * length s.objects
 
-abbrev pub bytes_of : List Stack → ℕ
-bytes_of stacks = sum_by bytes_in stacks
-
 abbrev pub bytes : Cache → ℕ
-bytes c = bytes_of c.stacks
+bytes c = sum_by bytes_in c.stacks
 
 -- the bytes that the limit leaves unused
 abbrev pub unused : Cache → ℕ
@@ -31,26 +28,20 @@ unused c = c.limit - bytes c
 
 -- The counted bytes are those of the objects, and within the limit; and each object has bytes.
 pub record IsCounted (stacks : List Stack) (limit counted : ℕ) : Type 0 where
-  pub bytes : counted ≡ bytes_of stacks
+  pub bytes : counted ≡ sum_by bytes_in stacks
   pub within : counted ≤ limit
   pub sizes : All (λ (s : Stack). 0 < s.size) stacks
 
 -- what it has of a class; of a class that isn't there, nothing
-abbrev pub no_stack : Stack
-no_stack = record { size = 0; objects = [] }
-
 abbrev pub stack_at : Cache → ℕ → Stack
-stack_at c k = slice_index_or c.stacks k no_stack
+stack_at c k = slice_index_or c.stacks k (record { size = 0; objects = [] })
 
 abbrev pub objects_of : Cache → ℕ → List Addr
 objects_of c k = (stack_at c k).objects
 
-abbrev pub with_objects : Stack → List Addr → Stack
-with_objects s objects = record s { objects = objects }
-
 -- a cache with other objects of a class
 abbrev pub with_class : Cache → ℕ → List Addr → Cache
-with_class c k objects = record c { stacks = slice_set c.stacks k (with_objects (stack_at c k) objects) }
+with_class c k objects = record c { stacks = slice_set c.stacks k (record (stack_at c k) { objects = objects }) }
 
 -- an empty cache for the classes of a table
 abbrev pub empty_stack : ClassRow → Stack

@@ -17,11 +17,8 @@ FitsRow rows p g (Raise f n) = p.limit + n < 2 ^ 64
 FitsRow rows p g (AddAgain f) = length g.hand.items < 2 ^ 32
 FitsRow rows p g (Trim f) = FitsBatch rows g
 
--- the thread's class is in the table and at the cache, and the row's own condition holds
-pub record FitsCache (rows : List ClassRow) (p : Cache) (g : Regs) (row : CacheRow) : Type 0 where
+-- the thread's class is in the table and at the cache, and the row's own condition holds, whatever the seat
+pub record FitsCache (rows : List ClassRow) (p : Cache) (v : CacheSeat) (g : Regs) (row : CacheRow) : Type 0 where
   pub class : g.class.0 < length rows
   pub there : g.class.0 < length p.stacks
   pub fit : FitsRow rows p g row
-
-abbrev pub cache_fits : List ClassRow → Cache → CacheSeat → Regs → CacheRow → Type 0
-cache_fits rows p v g row = FitsCache rows p g row

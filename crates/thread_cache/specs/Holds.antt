@@ -11,38 +11,24 @@ use Rattle.thread_cache.specs.declared.seat.CacheSeat.{CacheSeat}
 use Rattle.thread_cache.specs.Cache.{Stack, Cache, bytes}
 
 -- the bytes of limit that a thread has on the way: its victim gave them up, and its own cache is to be raised by them
-abbrev pub given_in : CacheRow → ℕ
-given_in (Raise f n) = n
-given_in other = 0
-
 abbrev pub given_at : At CacheRow → ℕ
-given_at (Here row) = given_in row
-given_at (Later k row) = given_in row
-given_at Away = 0
-
-abbrev pub given_of : Standing CacheSeat CacheRow → ℕ
-given_of s = given_at s.at
-
-abbrev pub limit_of : Cache → ℕ
-limit_of p = p.limit
+given_at (Here (Raise f n)) = n
+given_at (Later k (Raise f n)) = n
+given_at other = 0
 
 -- all limits, and all bytes of limit that are on the way
 abbrev pub all_limits : List Cache → List (Standing CacheSeat CacheRow) → ℕ
-all_limits ps us = sum_by limit_of ps + sum_by given_of us
+all_limits ps us = sum_by (λ (p : Cache). p.limit) ps + sum_by (λ (s : Standing CacheSeat CacheRow). given_at s.at) us
 
--- a free has its object in hand, and nothing else
-abbrev pub HandFor : Regs → CacheRow → Type 0
-HandFor g (Pop a) = Unit {0}
-HandFor g (Stock s) = Unit {0}
-HandFor g (Add f) = g.hand.items ≡ f.addr ∷ []
-HandFor g (Ask f) = g.hand.items ≡ f.addr ∷ []
-HandFor g (Raise f n) = g.hand.items ≡ f.addr ∷ []
-HandFor g (AddAgain f) = g.hand.items ≡ f.addr ∷ []
-HandFor g (Trim f) = g.hand.items ≡ f.addr ∷ []
-
--- no row of theirs comes behind acts elsewhere
+-- A free has its object in hand, and nothing else; and no row of theirs comes behind acts elsewhere.
 abbrev pub HandAt : Regs → At CacheRow → Type 0
-HandAt g (Here row) = HandFor g row
+HandAt g (Here (Pop a)) = Unit {0}
+HandAt g (Here (Stock s)) = Unit {0}
+HandAt g (Here (Add f)) = g.hand.items ≡ f.addr ∷ []
+HandAt g (Here (Ask f)) = g.hand.items ≡ f.addr ∷ []
+HandAt g (Here (Raise f n)) = g.hand.items ≡ f.addr ∷ []
+HandAt g (Here (AddAgain f)) = g.hand.items ≡ f.addr ∷ []
+HandAt g (Here (Trim f)) = g.hand.items ≡ f.addr ∷ []
 HandAt g (Later k row) = ⊥
 HandAt g Away = Unit {0}
 

@@ -12,7 +12,7 @@ use Rattle.alloc_rules.specs.Law as allocator
 use Rattle.thread_cache.specs.declared.row.CacheRow.{CacheRow}
 use Rattle.thread_cache.specs.declared.seat.CacheSeat.{CacheSeat}
 use Rattle.thread_cache.specs.Rows.{about_row, cache_front}
-use Rattle.thread_cache.specs.Fits.{cache_fits}
+use Rattle.thread_cache.specs.Fits.{FitsCache}
 use Rattle.thread_cache.specs.Holds.{all_limits, IsSeated, IsCacheOf, CachesHold}
 
 -- the heads of a trace that the caches can serve
@@ -23,7 +23,7 @@ pub record AreCacheLimits (c : Config) : Type 0 where
 
 abbrev pub CachesAreLawful : Type 0
 CachesAreLawful = (rows : List ClassRow) (c : Config) → AreRows rows → AreCacheLimits c
-    → IsLawful (cache_front rows c) about_row IsNotOwn (CachesHold rows c) (cache_fits rows)
+    → IsLawful (cache_front rows c) about_row IsNotOwn (CachesHold rows c) (FitsCache rows)
 
 -- After the picks of an order: what holds over any front-end; there are as many caches as threads; none has more bytes than its
 -- limit; each thread has its own cache and asks others; and the sum of all limits and of what victims gave up and isn't raised yet
@@ -37,4 +37,4 @@ pub record HoldsAfter (input : Input) (order : List ℕ) : Type 0 where
 
 abbrev pub InEveryOrder : Type 0
 InEveryOrder = (input : Input) → IsValidInput input → not_taken is_common input.asked.calls ≡ 0
-    → allocator.AreLawful (cache_front input.rows input.asked.config) about_row input.asked (cache_fits input.rows) (HoldsAfter input)
+    → allocator.AreLawful (cache_front input.rows input.asked.config) about_row input.asked (FitsCache input.rows) (HoldsAfter input)

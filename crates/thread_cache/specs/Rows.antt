@@ -1,8 +1,7 @@
 -- The caches of threads as a front-end: their rows, what the act of each leaves, and their rules.
-use Rattle.std.specs.Prelude.{ℕ, ◌+◌, ◌*◌, ◌%◌, ◌==◌, nat_lt, if◌then◌else◌, Bool, true, false, List, [], ◌∷◌, length, replicate, Some, None}
+use Rattle.std.specs.Prelude.{ℕ, ◌+◌, ◌*◌, ◌%◌, ◌==◌, nat_lt, if◌then◌else◌, true, false, List, [], ◌∷◌, length, replicate, Some, None}
 use Rattle.tc_units.specs.declared.units.Addr.{Addr}
 use Rattle.tc_units.specs.declared.spans.ClassRow.{ClassRow}
-use Rattle.tc_model.specs.declared.answers.Answer.{Answer}
 use Rattle.tc_model.specs.declared.config.Config.{Config}
 use Rattle.rseq_core.specs.declared.regs.Regs.{Regs}
 use Rattle.rseq_core.specs.Bags.{appended, without_first}
@@ -39,7 +38,7 @@ next_cache caches number = if nat_lt (number + 1) caches then number + 1 else 0
 -- the victim behind the one that was asked, which isn't the thread's own cache
 abbrev pub next_victim : CacheSeat → CacheSeat
 next_victim v =
-    record v { victim = (if next_cache v.caches v.victim == v.own then next_cache v.caches (next_cache v.caches v.victim) else next_cache v.caches v.victim) }
+    let next : ℕ = next_cache v.caches v.victim in record v { victim = (if next == v.own then next_cache v.caches next else next) }
 
 -- the cache that a row is at
 abbrev pub cache_place : CacheSeat → CacheRow → ℕ
@@ -54,9 +53,6 @@ seat_of threads t = record { own = t % threads; caches = threads; victim = next_
 abbrev pub popped : Cache → Regs → Asking → List Addr → Cache × Regs × Next CacheRow
 popped p g a [] = (trimmed p g.class.0 1, g, next.Fetch a)
 popped p g a (x ∷ xs) = (trimmed p g.class.0 1, record g { hand = appended g.hand (x ∷ xs) }, next.Serve a)
-
-abbrev pub pops : Cache → Regs → Asking → Cache × Regs × Next CacheRow
-pops p g a = popped p g a (last_first 1 (objects_of p g.class.0))
 
 -- the longest prefix of the hand that fits goes to the cache, and the rest stays in hand
 abbrev pub stocked : Cache → Regs → Cache
@@ -77,28 +73,23 @@ abbrev pub after_again : List Addr → Freeing → Next CacheRow
 after_again [] f = next.Freed f
 after_again (x ∷ xs) f = next.Row (Trim f)
 
--- a victim is asked for the bytes of a batch
-abbrev pub ask_most : List ClassRow → Regs → ℕ
-ask_most rows g = (row_of rows g.class).batch * (row_of rows g.class).size
-
 abbrev pub after_ask : ℕ → Freeing → Next CacheRow
 after_ask n f = if n == 0 then next.Row (Trim f) else next.Row (Raise f n)
 
--- the last objects of the class, a batch at most, come to the hand
-abbrev pub trims : List ClassRow → Cache → Regs → Cache × Regs
-trims rows p g =
-    let n : ℕ = (row_of rows g.class).batch in
-    (trimmed p g.class.0 n, record g { hand = appended g.hand (last_first n (objects_of p g.class.0)) })
-
--- what the act of each row leaves
+-- What the act of each row leaves. A victim is asked for the bytes of a batch; Trim takes the last objects of the class out, a
+-- batch at most, to the hand.
 abbrev pub cache_acts : List ClassRow → Cache → CacheSeat → Regs → CacheRow → Left Cache CacheSeat CacheRow
-cache_acts rows p v g (Pop a) = let x = pops p g a in leaving x.0 v x.1 x.2
+cache_acts rows p v g (Pop a) = let x = popped p g a (last_first 1 (objects_of p g.class.0)) in leaving x.0 v x.1 x.2
 cache_acts rows p v g (Stock s) = leaving (stocked p g) v (left_in p g) (after_stock (left_in p g).hand.items s)
 cache_acts rows p v g (Add f) = leaving (stocked p g) v (left_in p g) (after_add v.caches (left_in p g).hand.items f)
-cache_acts rows p v g (Ask f) = leaving (lowered p (ask_most rows g)) (next_victim v) g (after_ask (given p (ask_most rows g)) f)
+cache_acts rows p v g (Ask f) =
+    let most : ℕ = (row_of rows g.class).batch * (row_of rows g.class).size in
+    leaving (lowered p most) (next_victim v) g (after_ask (given p most) f)
 cache_acts rows p v g (Raise f n) = leaving (raised p n) v g (next.Row (AddAgain f))
 cache_acts rows p v g (AddAgain f) = leaving (stocked p g) v (left_in p g) (after_again (left_in p g).hand.items f)
-cache_acts rows p v g (Trim f) = let x = trims rows p g in leaving x.0 v x.1 (next.Give (giving.Freed f))
+cache_acts rows p v g (Trim f) =
+    let n : ℕ = (row_of rows g.class).batch in
+    leaving (trimmed p g.class.0 n) v (record g { hand = appended g.hand (last_first n (objects_of p g.class.0)) }) (next.Give (giving.Freed f))
 
 -- calls begin and go on at the thread's own cache
 abbrev pub cache_calls : List ClassRow → FrontCalls CacheSeat CacheRow
@@ -117,12 +108,8 @@ cache_calls rows =
       last = λ v. None;
     }
 
--- no row refuses a call
-abbrev pub cache_refuses : CacheRow → Answer → Bool
-cache_refuses row answer = false
-
 -- The rules of the caches, under a class table and the heads of a trace: a cache for each thread, with the bytes `percpu` as its
--- first limit. All of them stand before the shards.
+-- first limit. All of them stand before the shards, and no row refuses a call.
 abbrev pub cache_front : List ClassRow → Config → FrontRules Cache CacheSeat CacheRow
 cache_front rows c =
     record {
@@ -134,5 +121,5 @@ cache_front rows c =
       acts = cache_acts rows;
       yields = λ p v g row. true;
       stored = λ p k n. objects_at n (objects_of p k);
-      refuses = cache_refuses;
+      refuses = λ row answer. false;
     }

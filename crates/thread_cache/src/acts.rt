@@ -1,8 +1,12 @@
 //! The acts at a cache, and what comes behind them.
-ghost use Rattle.std.specs.Prelude.{◌≡◌, ◌<◌, ◌≤◌, ◌^◌, [], length, IfOk, OnOk, OnErr};
+ghost use Rattle.std.specs.Prelude.{◌≡◌, ◌<◌, ◌≤◌, ◌^◌, false, [], length, IfOk, OnOk, OnErr};
 ghost use Rattle.call_steps.specs.Fits.{FitsBatch};
 ghost use Rattle.call_steps.specs.Follows.{ComesWith, HasObject};
-ghost use Rattle.thread_cache.specs.Rows.{about_row, cache_refuses, stocked, left_in, pops, after_stock, after_add, after_again, ask_most, after_ask, trims, cache_acts};
+ghost use Rattle.rseq_core.specs.Bags.{appended};
+ghost use Rattle.transfer_cache.specs.Transfer.{last_first};
+ghost use Rattle.call_steps.specs.Local.{row_of};
+ghost use Rattle.thread_cache.specs.Cache.{objects_of, trimmed};
+ghost use Rattle.thread_cache.specs.Rows.{about_row, stocked, left_in, popped, after_stock, after_add, after_again, after_ask, cache_acts};
 ghost use Rattle.call_steps.specs.declared.step.Giving.TheVariants.{Freed};
 ghost use Rattle.call_steps.specs.declared.step.Next.TheVariants.{Give};
 ghost use Rattle.thread_cache.specs.declared.row.CacheRow.TheVariants.{Ask};
@@ -24,12 +28,12 @@ pub fn act_cache(
     regs: &mut Regs,
     row: CacheRow,
 ) -> Result<Next<CacheRow>, AllocError>
-    requires { FitsCache table.now cache.old regs.old row }
+    requires { FitsCache table.now cache.old seat.old regs.old row }
     ensures cache { OnOk result (cache.new ≡ (cache_acts table.now cache.old seat.old regs.old row).part) }
     ensures seat { OnOk result (seat.new ≡ (cache_acts table.now cache.old seat.old regs.old row).seat) }
     ensures regs { OnOk result (regs.new ≡ (cache_acts table.now cache.old seat.old regs.old row).regs) }
     ensures next { IfOk result (λ n. n ≡ (cache_acts table.now cache.old seat.old regs.old row).next) }
-    ensures may { IfOk result (ComesWith about_row cache_refuses (HasObject table.now) row regs.new) }
+    ensures may { IfOk result (ComesWith about_row (λ r answer. false) (HasObject table.now) row regs.new) }
     ensures err { OnErr result ((cache.new ≡ cache.old) × (seat.new ≡ seat.old) × (regs.new ≡ regs.old)) }
 {
     match row {
@@ -59,9 +63,9 @@ pub fn act_cache(
 fn pop(cache: &mut CachePart, regs: &mut Regs, asking: Asking) -> Next<CacheRow>
     requires class { regs.old.class.0 < length cache.old.stacks }
     requires room { 0 < regs.old.hand.spare }
-    ensures cache { cache.new ≡ (pops cache.old regs.old asking).0 }
-    ensures regs { regs.new ≡ (pops cache.old regs.old asking).1 }
-    ensures next { result ≡ (pops cache.old regs.old asking).2 }
+    ensures cache { cache.new ≡ trimmed cache.old regs.old.class.0 1 }
+    ensures regs { regs.new ≡ (popped cache.old regs.old asking (last_first 1 (objects_of cache.old regs.old.class.0))).1 }
+    ensures next { result ≡ (popped cache.old regs.old asking (last_first 1 (objects_of cache.old regs.old.class.0))).2 }
 {
     match cache.pop(regs.class) {
         Some(object) => {
@@ -152,8 +156,8 @@ fn trim(
 ) -> Next<CacheRow>
     requires class { regs.old.class.0 < length cache.old.stacks }
     requires batch { FitsBatch table.now regs.old }
-    ensures cache { cache.new ≡ (trims table.now cache.old regs.old).0 }
-    ensures regs { regs.new ≡ (trims table.now cache.old regs.old).1 }
+    ensures cache { cache.new ≡ trimmed cache.old regs.old.class.0 (row_of table.now regs.old.class).batch }
+    ensures regs { regs.new ≡ record regs.old { hand = appended regs.old.hand (last_first (row_of table.now regs.old.class).batch (objects_of cache.old regs.old.class.0)) } }
     ensures next { result ≡ Give (Freed freeing) }
 {
     let batch = u32::from(table.row(regs.class).batch);

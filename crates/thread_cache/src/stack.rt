@@ -2,7 +2,6 @@
 ghost use Rattle.std.specs.Prelude.{◌≡◌, ◌+◌, ◌<◌, ◌≤◌, ◌^◌, [], ◌++◌, length, min, OnOk, OnErr};
 ghost use Rattle.std.specs.Option.{option_to_list};
 ghost use Rattle.transfer_cache.specs.Transfer.{last_first, without_last};
-ghost use Rattle.thread_cache.specs.Cache.{with_objects};
 
 use std::alloc::{AllocError, Global};
 use std::marker::Model;
@@ -50,7 +49,7 @@ impl Stack {
     /// Takes the last object out.
     pub fn pop(&mut self) -> Option<Addr>
         ensures popped { option_to_list result ≡ last_first 1 self.old.objects }
-        ensures left { self.new ≡ with_objects self.old (without_last 1 self.old.objects) }
+        ensures left { self.new ≡ record self.old { objects = without_last 1 self.old.objects } }
         ensures order { self.old.objects ≡ self.new.objects ++ option_to_list result }
     {
         self.objects.pop()
@@ -58,7 +57,7 @@ impl Stack {
 
     /// Appends a list in order.
     pub fn append(&mut self, list: &[Addr]) -> Result<(), AllocError>
-        ensures ok { OnOk result (self.new ≡ with_objects self.old (self.old.objects ++ list.now)) }
+        ensures ok { OnOk result (self.new ≡ record self.old { objects = self.old.objects ++ list.now }) }
         ensures err { OnErr result (self.new ≡ self.old) }
     {
         self.objects.extend_from_slice(list)
@@ -69,7 +68,7 @@ impl Stack {
     pub fn take(&mut self, n: u32, out: &mut Bag<Addr>) -> u32
         requires { n ≤ out.old.spare }
         ensures count { result ≡ min n (length self.old.objects) }
-        ensures left { self.new ≡ with_objects self.old (without_last n self.old.objects) }
+        ensures left { self.new ≡ record self.old { objects = without_last n self.old.objects } }
         ensures out { out.new.items ≡ out.old.items ++ last_first n self.old.objects }
         ensures spare { out.new.spare + result ≡ out.old.spare }
     {

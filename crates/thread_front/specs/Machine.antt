@@ -13,7 +13,7 @@ use Rattle.tc_machine.specs.Finish as finish
 use Rattle.thread_cache.specs.declared.row.CacheRow.{CacheRow}
 use Rattle.thread_cache.specs.declared.seat.CacheSeat.{CacheSeat}
 use Rattle.thread_cache.specs.Cache.{Cache}
-use Rattle.thread_cache.specs.Fits.{cache_fits}
+use Rattle.thread_cache.specs.Fits.{FitsCache}
 use Rattle.thread_cache.specs.Laws.{HoldsAfter}
 use Rattle.thread_cache.specs.Rows.{about_row, cache_front}
 
@@ -35,7 +35,7 @@ rules input = machine.rules (front_of input) about_row input.asked
 -- each beginning of it.
 abbrev pub IsLawful : Input → List ℕ → Type 0
 IsLawful input order =
-    IsLawfulOrder (rules input) (AreLawful (front_of input) about_row input.asked (cache_fits input.rows) (HoldsAfter input)) (HoldsAfter input) input.asked.config.events order
+    IsLawfulOrder (rules input) (AreLawful (front_of input) about_row input.asked (FitsCache input.rows) (HoldsAfter input)) (HoldsAfter input) input.asked.config.events order
 
 -- what the run of an order tells
 abbrev pub finished_in : Input → List ℕ → Finished

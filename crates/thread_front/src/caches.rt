@@ -32,7 +32,7 @@ impl FrontEnd for ThreadCaches {
     type Row = CacheRow;
 
     ghost use Rattle.thread_cache.specs.Rows.{cache_front, about_row};
-    ghost use Rattle.thread_cache.specs.Fits.{cache_fits};
+    ghost use Rattle.thread_cache.specs.Fits.{FitsCache};
     ghost use Rattle.thread_cache.specs.Laws.{AreCacheLimits};
     ghost use Rattle.thread_cache.proofs.CachesLaw.{split_first};
     ghost use Rattle.std.proofs.Common.{refl};
@@ -47,7 +47,7 @@ impl FrontEnd for ThreadCaches {
 
     ghost can_open = { λ u. AreCacheLimits u.config };
 
-    ghost fits = { λ u. cache_fits u.table };
+    ghost fits = { λ u. FitsCache u.table };
 
     fn split(setting: &Setting) -> u8 {
         setting.config.threads

@@ -1,5 +1,5 @@
 -- A line of a generated trace is read as what it says.
-use Rattle.std.proofs.Common.{◌≡◌, ℕ, ◌+◌, ◌^◌, ◌<◌, ◌≤◌, ◌&&◌, true, false, List, [], ◌∷◌, map, codes, decimal, Some, Ok, refl, arith}
+use Rattle.std.proofs.Common.{◌≡◌, ℕ, ◌+◌, ◌^◌, ◌<◌, ◌≤◌, ◌&&◌, true, false, List, [], ◌∷◌, drop, map, codes, decimal, Some, Ok, refl, arith}
 use Rattle.std.proofs.lemmas.Bool.{le-leb, and_right}
 use Rattle.std.proofs.lemmas.Bool.Decides.{nat_tests}
 use Rattle.tc_model.specs.Input.{Asked}
@@ -47,7 +47,7 @@ fails_none classes asked x2 fits = grind (arith)
 
 -- a line that fails no rule is read as its form
 passes : (l : reading.Line) (w : Word) (form : Form) → l.number ≤ 1000000 → reading.first_word l.fields ≡ Some w → (l.before.late && is_head w) ≡ false
-    → has_fields w (reading.other_fields l.fields) ≡ true → form_of w (reading.other_fields l.fields) ≡ Some form → FailsNone l.classes l.before.asked form
+    → has_fields w (drop 1 l.fields) ≡ true → form_of w (drop 1 l.fields) ≡ Some form → FailsNone l.classes l.before.asked form
     → read_line l ≡ Ok (with_form l.number form l.before)
 passes l w form few named early has is none = grind (arith, nat_tests)
 

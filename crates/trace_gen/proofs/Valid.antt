@@ -13,7 +13,7 @@ use Rattle.trace_gen.specs.declared.line.Line.TheVariants as line
 use Rattle.trace_gen.specs.declared.kind.Kind.{Kind}
 use Rattle.trace_gen.specs.declared.kind.Kind.TheVariants.{Malloc, Free, Drain, Release}
 use Rattle.trace_gen.specs.Draws.{draw}
-use Rattle.trace_gen.specs.Generated.{State, drawn, cpus_of, call_line, after_call, freed_place, thread_of, next_kind, state_at, lines_before}
+use Rattle.trace_gen.specs.Generated.{State, drawn, cpus_of, call_line, after_call, freed_place, next_kind, state_at, lines_before}
 use Rattle.trace_gen.specs.Fields.{line_fields, head_fields}
 use Rattle.trace_gen.specs.TraceText.{trace_text}
 use Rattle.trace_gen.proofs.CallSteps.{more_labels}
@@ -111,11 +111,11 @@ abbrev drawing : Bool → State → State
 drawing turn s = if turn then drawn 4 s else drawn 2 s
 
 abbrev moving : ℕ → State → Line
-moving threads s = line.Preempt (thread_of threads s) (draw 0 (drawn 2 s).number % 8 + 1) (draw 1 (drawn 2 s).number % cpus_of threads)
+moving threads s = line.Preempt (draw 0 s.number % threads) (draw 0 (drawn 2 s).number % 8 + 1) (draw 1 (drawn 2 s).number % cpus_of threads)
 
 abbrev lines_with : ℕ → Bool → State → List Line
 lines_with threads turn s =
-    option_to_list (if turn then Some (moving threads s) else None) ++ call_line (cpus_of threads) (thread_of threads s) (next_kind s) (drawing turn s) ∷ []
+    option_to_list (if turn then Some (moving threads s) else None) ++ call_line (cpus_of threads) (draw 0 s.number % threads) (next_kind s) (drawing turn s) ∷ []
 
 -- one call more with its preemption, if it has one
 step_read : (classes threads number : ℕ) (lines : List Line) (s : State) (turn : Bool) → AreFew threads → AreRead classes threads lines number s.live s.next
@@ -132,10 +132,10 @@ step_read classes threads number lines s true few are within room =
     (omega (arith, there, are.threads_are), omega (arith, cpu, are.cpus_are))
     are.labels in
     let P : List Line → Type 0 = λ all. AreRead classes threads all (number + 1 + 1) after.live after.next in
-    subst P (append_assoc lines (own ∷ []) (call_line (cpus_of threads) (thread_of threads s) (next_kind s) (drawn 4 s) ∷ []))
-    (call_read classes threads (number + 1) (lines ++ own ∷ []) (drawn 4 s) (next_kind s) (thread_of threads s) few moved within there room (free-has_label (draw 1 s.number % 100) s.live))
+    subst P (append_assoc lines (own ∷ []) (call_line (cpus_of threads) (draw 0 s.number % threads) (next_kind s) (drawn 4 s) ∷ []))
+    (call_read classes threads (number + 1) (lines ++ own ∷ []) (drawn 4 s) (next_kind s) (draw 0 s.number % threads) few moved within there room (free-has_label (draw 1 s.number % 100) s.live))
 step_read classes threads number lines s false few are within room =
-    call_read classes threads number lines (drawn 2 s) (next_kind s) (thread_of threads s) few are (omega arith) (thread-below threads 0 s.number few.some) room (free-has_label (draw 1 s.number % 100) s.live)
+    call_read classes threads number lines (drawn 2 s) (next_kind s) (draw 0 s.number % threads) few are (omega arith) (thread-below threads 0 s.number few.some) room (free-has_label (draw 1 s.number % 100) s.live)
 
 -- the first calls: they have few lines, and take one label each at most
 record AreCallsRead (classes seed threads i : ℕ) : Type 0 where

@@ -31,31 +31,25 @@ kind_of chance live =
 abbrev pub size_of : ℕ → ℕ → ℕ
 size_of scale drawn = if nat_lt scale 12 then drawn % 1024 + 1 else (if scale == 15 then drawn * 16 else drawn)
 
--- the place of the label that is freed, and that label
+-- the place of the label that is freed
 abbrev pub freed_place : State → ℕ
 freed_place s = draw 0 s.number % length s.live
-
-abbrev pub freed_label : State → ℕ
-freed_label s = slice_index s.live (freed_place s)
 
 -- the line of a call of thread t
 abbrev pub call_line : ℕ → ℕ → Kind → State → Line
 call_line cpus t kind.Malloc s = line.Malloc t s.next (size_of (draw 0 s.number % 16) (draw 1 s.number))
-call_line cpus t kind.Free s = line.Free t (freed_label s)
+call_line cpus t kind.Free s = line.Free t (slice_index s.live (freed_place s))
 call_line cpus t kind.Drain s = line.Drain t (draw 0 s.number % cpus)
 call_line cpus t kind.Release s = line.Release t (draw 0 s.number % 1000)
 
 -- what stands behind it: an allocation's label is the last live one, and the last one takes the place of the freed one
 abbrev pub after_call : Kind → State → State
 after_call kind.Malloc s = record { number = number_after 2 s.number; live = s.live ++ s.next ∷ []; next = s.next + 1 }
-after_call kind.Free s = record { number = number_after 1 s.number; live = swap_remove s.live (freed_place s) (freed_label s); next = s.next }
+after_call kind.Free s = record { number = number_after 1 s.number; live = swap_remove s.live (freed_place s) (slice_index s.live (freed_place s)); next = s.next }
 after_call kind.Drain s = drawn 1 s
 after_call kind.Release s = drawn 1 s
 
--- thread, and kind of the call, by the first two draws
-abbrev pub thread_of : ℕ → State → ℕ
-thread_of threads s = draw 0 s.number % threads
-
+-- the kind of the call, by the second of its draws; the first is for its thread
 abbrev pub next_kind : State → Kind
 next_kind s = kind_of (draw 1 s.number % 100) s.live
 
@@ -71,7 +65,7 @@ at_call i s = if i % 10 == 9 then drawn 4 s else drawn 2 s
 abbrev pub lines_of : ℕ → ℕ → State → List Line
 lines_of threads i s =
     let cpus = cpus_of threads in
-    let t = thread_of threads s in
+    let t = draw 0 s.number % threads in
     option_to_list (preempting cpus t i (drawn 2 s)) ++ call_line cpus t (next_kind s) (at_call i s) ∷ []
 
 -- the state before call i

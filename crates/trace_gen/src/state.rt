@@ -24,7 +24,7 @@ impl Model for Generator {
 }
 
 impl Generator {
-    ghost use Rattle.trace_gen.specs.Generated.{State, drawn, kind_of, size_of, freed_place, freed_label, call_line, after_call, thread_of, next_kind, preempting, at_call, lines_of, cpus_of};
+    ghost use Rattle.trace_gen.specs.Generated.{State, drawn, kind_of, size_of, freed_place, call_line, after_call, next_kind, preempting, at_call, lines_of, cpus_of};
 
     /// A generator at a seed, without labels.
     pub fn new(alloc: Global, seed: u32) -> Self

@@ -1,5 +1,5 @@
 -- The picks of an order file are of threads that are there.
-use Rattle.std.proofs.Common.{◌≡◌, ℕ, ◌+◌, ◌<◌, subst, false, List, [], ◌∷◌, Option, Some, None, Result, Ok, refl, sym, ap, ◌∙◌, option_map, arith}
+use Rattle.std.proofs.Common.{◌≡◌, ℕ, ◌+◌, ◌<◌, subst, false, List, [], ◌∷◌, Option, Some, None, Result, Ok, Err, refl, sym, ap, ◌∙◌, option_map, arith}
 use Rattle.std.specs.Prelude.{replicate, nat_le}
 use Rattle.std.specs.List.{All, find}
 use Rattle.std.specs.Option.{option_map_or}
@@ -7,8 +7,8 @@ use Rattle.std.proofs.lemmas.Bool.{leb-false}
 use Rattle.std.proofs.lemmas.List.Elements.{All-append, All-replicate, All-nil}
 use Rattle.trace_reader.specs.declared.why.OrderWhy.{OrderWhy}
 use Rattle.trace_reader.specs.declared.turn.Turns.{Turns}
-use Rattle.trace_reader.specs.Reading.{BadLine, Rule, verdict, judged, and_then}
-use Rattle.trace_reader.specs.Orders.{OrderLine, order_rules, line_turns, has_turns, with_order_line, read_order_lines, picks_by}
+use Rattle.trace_reader.specs.Reading.{BadLine, Rule, verdict, is_some_and, and_then}
+use Rattle.trace_reader.specs.Orders.{OrderLine, order_rules, line_turns, with_order_line, read_order_lines, picks_by}
 use Rattle.trace_text.specs.Lines.{lines_of}
 
 -- each pick is of a thread below a bound
@@ -26,11 +26,11 @@ module _ {L Why : Type 0} (line : L) where
   passes (rule ∷ rules) none = grind (arith, passes rules)
 
 -- a good line names a thread that is there
-thread_passes : (line : OrderLine) → verdict order_rules line ≡ None → has_turns (λ turns. nat_le line.threads turns.thread) line ≡ false
+thread_passes : (line : OrderLine) → verdict order_rules line ≡ None → is_some_and (λ (turns : Turns). nat_le line.threads turns.thread) (line_turns line.fields) ≡ false
 thread_passes line good = let last = (passes line order_rules good).1.1 in last.1.0
 
 -- the picks with those of a good line
-after_line : (line : OrderLine) (found : Option Turns) → line_turns line.fields ≡ found → has_turns (λ turns. nat_le line.threads turns.thread) line ≡ false
+after_line : (line : OrderLine) (found : Option Turns) → line_turns line.fields ≡ found → is_some_and (λ (turns : Turns). nat_le line.threads turns.thread) (line_turns line.fields) ≡ false
     → AreOf line.threads line.before → AreOf line.threads (with_order_line line)
 after_line line None is good before = rw is before
 after_line line (Some turns) is good before =
@@ -40,7 +40,7 @@ after_line line (Some turns) is good before =
 -- one line, and then the others
 one_more : (line : OrderLine) (found : Option OrderWhy) (number : ℕ) (more : List ℕ → Result (List ℕ) (BadLine OrderWhy)) (picks : List ℕ)
     → verdict order_rules line ≡ found → (AreOf line.threads (with_order_line line) → more (with_order_line line) ≡ Ok picks → AreOf line.threads picks)
-    → AreOf line.threads line.before → and_then number (judged found (with_order_line line)) more ≡ Ok picks → AreOf line.threads picks
+    → AreOf line.threads line.before → and_then number (option_map_or Err found (Ok (with_order_line line))) more ≡ Ok picks → AreOf line.threads picks
 one_more line None number more picks good then before is = then (after_line line (line_turns line.fields) refl (thread_passes line good) before) is
 one_more line (Some why) number more picks bad then before is = absurd (cc)
 

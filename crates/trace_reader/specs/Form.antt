@@ -57,12 +57,7 @@ IsInRange (Resize thread cpu class cap) = cap ≤ MOST_CAPACITY
 -- whether a form is a head's
 abbrev pub is_head_form : Form → Bool
 is_head_form (Head head value) = true
-is_head_form (Malloc thread label size) = false
-is_head_form (Free thread label) = false
-is_head_form (Move thread before cpu) = false
-is_head_form (Release thread pages) = false
-is_head_form (Drain thread cpu) = false
-is_head_form (Resize thread cpu class cap) = false
+is_head_form form = false
 
 -- a form that was read with a word: its numbers are in their ranges, and it is a head's where the word is
 abbrev pub IsReadAs : Word → Form → Type 0

@@ -1,5 +1,5 @@
 -- What an order file asks for, line by line, or its first bad line with the first rule that it fails.
-use Rattle.std.specs.Prelude.{ℕ, ◌≡◌, ◌+◌, Bool, true, false, not, nat_le, nat_lt, List, [], ◌∷◌, ◌++◌, length, replicate, is_none, Option, Some, None, Result, Ok, Err, if◌then◌else◌}
+use Rattle.std.specs.Prelude.{ℕ, ◌≡◌, ◌+◌, Bool, true, false, not, nat_le, nat_lt, List, [], ◌∷◌, ◌++◌, length, replicate, is_none, Option, None, Result, Ok, Err, if◌then◌else◌, option_map, option_and_then}
 use Rattle.std.specs.Option.{option_map_or, ok_or}
 use Rattle.trace_text.specs.Lines.{lines_of}
 use Rattle.tc_model.specs.declared.machine.TheConstants.{MOST_PICKS}
@@ -11,16 +11,13 @@ use Rattle.trace_reader.specs.declared.why.OrderFault.TheVariants as fault
 use Rattle.trace_reader.specs.declared.turn.Turns.{Turns}
 use Rattle.trace_reader.specs.Words.{place, from_to}
 use Rattle.trace_reader.specs.Form.{number_in}
-use Rattle.trace_reader.specs.Reading.{Rule, verdict, judged, BadLine, and_then}
+use Rattle.trace_reader.specs.Reading.{Rule, verdict, is_some_and, BadLine, and_then}
 
 -- how often a thread is picked in a line: `T`, once, or `T N`
-abbrev pub turns_with : Option ℕ → Option ℕ → Option Turns
-turns_with (Some thread) (Some picks) = Some (record { thread = thread; picks = picks })
-turns_with thread picks = None
-
 abbrev pub line_turns : List (List ℕ) → Option Turns
-line_turns (thread ∷ []) = turns_with (number_in place thread) (Some 1)
-line_turns (thread ∷ picks ∷ []) = turns_with (number_in place thread) (number_in (from_to 1 MOST_TURNS) picks)
+line_turns (thread ∷ []) = option_map (λ t. record { thread = t; picks = 1 }) (number_in place thread)
+line_turns (thread ∷ picks ∷ []) =
+    option_and_then (λ t. option_map (λ n. record { thread = t; picks = n }) (number_in (from_to 1 MOST_TURNS) picks)) (number_in place thread)
 line_turns fields = None
 
 -- whether a line has one field or two
@@ -40,17 +37,14 @@ pub record OrderLine : Type 0 where
   pub number : ℕ
   pub fields : List (List ℕ)
 
-abbrev pub has_turns : (Turns → Bool) → OrderLine → Bool
-has_turns test line = option_map_or test (line_turns line.fields) false
-
 -- the rules, in the order in which they are tested
 abbrev pub order_rules : List (Rule OrderLine OrderWhy)
 order_rules =
     record { why = why.Lines; fails = λ line. nat_lt MOST_LINES line.number }
     ∷ record { why = why.Fields; fails = λ line. not (has_turn_fields line.fields) }
     ∷ record { why = why.Number; fails = λ line. is_none (line_turns line.fields) }
-    ∷ record { why = why.Thread; fails = λ line. has_turns (λ turns. nat_le line.threads turns.thread) line }
-    ∷ record { why = why.Picks; fails = λ line. has_turns (λ turns. nat_lt MOST_PICKS (length line.before + turns.picks)) line }
+    ∷ record { why = why.Thread; fails = λ line. is_some_and (λ turns. nat_le line.threads turns.thread) (line_turns line.fields) }
+    ∷ record { why = why.Picks; fails = λ line. is_some_and (λ turns. nat_lt MOST_PICKS (length line.before + turns.picks)) (line_turns line.fields) }
     ∷ []
 
 -- the picks with those of a line
@@ -59,12 +53,14 @@ with_order_line line = option_map_or (λ turns. line.before ++ replicate turns.p
 
 -- one line
 abbrev pub read_order_line : OrderLine → Result (List ℕ) OrderWhy
-read_order_line line = judged (verdict order_rules line) (with_order_line line)
+read_order_line line = option_map_or Err (verdict order_rules line) (Ok (with_order_line line))
 
 -- the lines from a number on, one after another
 abbrev pub read_order_lines : ℕ → List ℕ → ℕ → List (List (List ℕ)) → Result (List ℕ) (BadLine OrderWhy)
 read_order_lines threads before number [] = Ok before
-read_order_lines threads before number (fields ∷ lines) = and_then number (read_order_line (record { threads = threads; before = before; number = number; fields = fields })) (λ after. read_order_lines threads after (number + 1) lines)
+read_order_lines threads before number (fields ∷ lines) =
+    and_then number (read_order_line (record { threads = threads; before = before; number = number; fields = fields }))
+    (λ after. read_order_lines threads after (number + 1) lines)
 
 -- the threads that are picked, in the order of their picks, by the text of an order file for so many threads
 abbrev pub picks_by : ℕ → List ℕ → Result (List ℕ) (BadLine OrderWhy)

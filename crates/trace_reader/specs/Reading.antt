@@ -1,5 +1,5 @@
 -- What a trace asks for, line by line, or its first bad line with the first rule that it fails.
-use Rattle.std.specs.Prelude.{ℕ, ◌+◌, Bool, true, false, ◌&&◌, not, nat_le, nat_lt, min, List, [], ◌∷◌, ◌++◌, replicate, slice_set, find, is_none, Option, Some, None, Result, Ok, Err, option_map, option_and_then}
+use Rattle.std.specs.Prelude.{ℕ, ◌+◌, Bool, true, false, ◌&&◌, not, nat_le, nat_lt, min, List, [], ◌∷◌, ◌++◌, drop, replicate, slice_set, find, is_none, Option, Some, None, Result, Ok, Err, option_map, option_and_then}
 use Rattle.std.specs.List.{slice_index_or}
 use Rattle.std.specs.Option.{option_map_or}
 use Rattle.tc_model.specs.declared.calls.Call.{Call}
@@ -36,18 +36,14 @@ pub record Line : Type 0 where
   pub number : ℕ
   pub fields : List (List ℕ)
 
--- what a line's first field names, and the fields behind it
+-- what a line's first field names
 abbrev pub first_word : List (List ℕ) → Option Word
 first_word [] = None
 first_word (field ∷ fields) = word_of field
 
-abbrev pub other_fields : List (List ℕ) → List (List ℕ)
-other_fields [] = []
-other_fields (field ∷ fields) = fields
-
 -- what a line says, where its first field is a word and the fields behind it are that word's
 abbrev pub line_form : List (List ℕ) → Option Form
-line_form fields = option_and_then (λ word. form_of word (other_fields fields)) (first_word fields)
+line_form fields = option_and_then (λ word. form_of word (drop 1 fields)) (first_word fields)
 
 -- the thread, the CPU and the class that a form names
 abbrev pub thread_of : Form → Option ℕ
@@ -60,36 +56,28 @@ thread_of (Drain thread cpu) = Some thread
 thread_of (Resize thread cpu class cap) = Some thread
 
 abbrev pub cpu_of : Form → Option ℕ
-cpu_of (Head head value) = None
-cpu_of (Malloc thread label size) = None
-cpu_of (Free thread label) = None
 cpu_of (Move thread before cpu) = Some cpu
-cpu_of (Release thread pages) = None
 cpu_of (Drain thread cpu) = Some cpu
 cpu_of (Resize thread cpu class cap) = Some cpu
+cpu_of form = None
 
 abbrev pub class_of : Form → Option ℕ
-class_of (Head head value) = None
-class_of (Malloc thread label size) = None
-class_of (Free thread label) = None
-class_of (Move thread before cpu) = None
-class_of (Release thread pages) = None
-class_of (Drain thread cpu) = None
 class_of (Resize thread cpu class cap) = Some class
+class_of form = None
 
--- whether a number is there and isn't below a bound
-abbrev pub is_past : ℕ → Option ℕ → Bool
-is_past bound number = option_map_or (nat_le bound) number false
+-- whether there is a value that passes a test
+abbrev pub is_some_and : {A : Type 0} → (A → Bool) → Option A → Bool
+is_some_and test value = option_map_or test value false
 
 -- whether a form names a thread, a CPU or a class that isn't there; a class number is at most 255
 abbrev pub lacks_thread : Asked → Form → Bool
-lacks_thread asked form = is_past asked.config.threads (thread_of form)
+lacks_thread asked form = is_some_and (nat_le asked.config.threads) (thread_of form)
 
 abbrev pub lacks_cpu : Asked → Form → Bool
-lacks_cpu asked form = is_past asked.config.cpus (cpu_of form)
+lacks_cpu asked form = is_some_and (nat_le asked.config.cpus) (cpu_of form)
 
 abbrev pub lacks_class : ℕ → Form → Bool
-lacks_class classes form = is_past (min classes MOST_CLASSES) (class_of form)
+lacks_class classes form = is_some_and (nat_le (min classes MOST_CLASSES)) (class_of form)
 
 -- whether a form allocates under a label that an earlier allocation has, frees a label that no earlier allocation has,
 -- and frees a label that an earlier free has
@@ -105,13 +93,6 @@ abbrev pub label_freed : List ThreadCall → Form → Bool
 label_freed calls (Free thread label) = is_freed label calls
 label_freed calls form = false
 
--- whether a line names a word, or has a form, that passes a test
-abbrev pub has_word : (Word → Bool) → Line → Bool
-has_word test line = option_map_or test (first_word line.fields) false
-
-abbrev pub has_form : (Form → Bool) → Line → Bool
-has_form test line = option_map_or test (line_form line.fields) false
-
 -- a rule on lines: what is wrong with a line that fails it, and which lines fail it
 pub record Rule (L Why : Type 0) : Type 0 where
   pub why : Why
@@ -122,15 +103,15 @@ abbrev pub rules : List (Rule Line LineWhy)
 rules =
     record { why = why.Lines; fails = λ line. nat_lt MOST_LINES line.number }
     ∷ record { why = why.Word; fails = λ line. is_none (first_word line.fields) }
-    ∷ record { why = why.HeadLate; fails = λ line. line.before.late && has_word is_head line }
-    ∷ record { why = why.Fields; fails = λ line. has_word (λ word. not (has_fields word (other_fields line.fields))) line }
+    ∷ record { why = why.HeadLate; fails = λ line. line.before.late && is_some_and is_head (first_word line.fields) }
+    ∷ record { why = why.Fields; fails = λ line. is_some_and (λ word. not (has_fields word (drop 1 line.fields))) (first_word line.fields) }
     ∷ record { why = why.Number; fails = λ line. is_none (line_form line.fields) }
-    ∷ record { why = why.Thread; fails = λ line. has_form (lacks_thread line.before.asked) line }
-    ∷ record { why = why.Cpu; fails = λ line. has_form (lacks_cpu line.before.asked) line }
-    ∷ record { why = why.Class; fails = λ line. has_form (lacks_class line.classes) line }
-    ∷ record { why = why.LabelUsed; fails = λ line. has_form (label_used line.before.asked.calls) line }
-    ∷ record { why = why.LabelUnknown; fails = λ line. has_form (label_unknown line.before.asked.calls) line }
-    ∷ record { why = why.LabelFreed; fails = λ line. has_form (label_freed line.before.asked.calls) line }
+    ∷ record { why = why.Thread; fails = λ line. is_some_and (lacks_thread line.before.asked) (line_form line.fields) }
+    ∷ record { why = why.Cpu; fails = λ line. is_some_and (lacks_cpu line.before.asked) (line_form line.fields) }
+    ∷ record { why = why.Class; fails = λ line. is_some_and (lacks_class line.classes) (line_form line.fields) }
+    ∷ record { why = why.LabelUsed; fails = λ line. is_some_and (label_used line.before.asked.calls) (line_form line.fields) }
+    ∷ record { why = why.LabelUnknown; fails = λ line. is_some_and (label_unknown line.before.asked.calls) (line_form line.fields) }
+    ∷ record { why = why.LabelFreed; fails = λ line. is_some_and (label_freed line.before.asked.calls) (line_form line.fields) }
     ∷ []
 
 -- the verdict on a line by such rules: the first that it fails
@@ -155,30 +136,28 @@ with_form number (Release thread pages) before = with_call number thread (call.R
 with_form number (Drain thread cpu) before = with_call number thread (call.Drain (record { 0 = cpu })) before
 with_form number (Resize thread cpu class cap) before = with_call number thread (call.Resize (record { 0 = cpu }) (record { 0 = class }) cap) before
 
-abbrev pub with_line : Line → SoFar
-with_line line = option_map_or (λ form. with_form line.number form line.before) (line_form line.fields) line.before
-
 -- one line, by the verdict on it
-abbrev pub judged : {After Why : Type 0} → Option Why → After → Result After Why
-judged None after = Ok after
-judged (Some why) after = Err why
-
 abbrev pub read_line : Line → Result SoFar LineWhy
-read_line line = judged (verdict rules line) (with_line line)
+read_line line =
+    option_map_or Err (verdict rules line)
+    (Ok (option_map_or (λ form. with_form line.number form line.before) (line_form line.fields) line.before))
 
 -- the first bad line, with the first rule that it fails
 pub record BadLine (Why : Type 0) : Type 0 where
   pub line : ℕ
   pub why : Why
 
--- the lines from a number on, one after another
+-- what comes behind a line of this number: a bad one is the last
 abbrev pub and_then : {After Answer Why : Type 0} → ℕ → Result After Why → (After → Result Answer (BadLine Why)) → Result Answer (BadLine Why)
 and_then number (Ok after) more = more after
 and_then number (Err why) more = Err (record { line = number; why = why })
 
+-- the lines from a number on, one after another
 abbrev pub read_lines : ℕ → SoFar → ℕ → List (List (List ℕ)) → Result Asked (BadLine LineWhy)
 read_lines classes before number [] = Ok before.asked
-read_lines classes before number (fields ∷ lines) = and_then number (read_line (record { classes = classes; before = before; number = number; fields = fields })) (λ after. read_lines classes after (number + 1) lines)
+read_lines classes before number (fields ∷ lines) =
+    and_then number (read_line (record { classes = classes; before = before; number = number; fields = fields }))
+    (λ after. read_lines classes after (number + 1) lines)
 
 -- what the text of a trace asks for, where there are so many size classes
 abbrev pub asked_by : ℕ → List ℕ → Result Asked (BadLine LineWhy)

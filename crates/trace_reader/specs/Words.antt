@@ -1,5 +1,5 @@
 -- The words of a trace's lines, and the values that stand behind each.
-use Rattle.std.specs.Prelude.{ℕ, ◌-◌, Bool, false, true, List, [], ◌∷◌, find, Option, option_map, codes}
+use Rattle.std.specs.Prelude.{ℕ, ◌-◌, Bool, false, true, List, [], ◌∷◌, Option, Some, None, option_map, codes, if◌then◌else◌}
 use Rattle.std.specs.Option.{option_or}
 use Rattle.std.specs.Str.{bytes_eq}
 use Rattle.tc_model.specs.Heads.{head_rule, head_of}
@@ -7,23 +7,16 @@ use Rattle.trace_reader.specs.declared.limits.TheConstants.{MOST_PLACE, MOST_LAB
 use Rattle.trace_reader.specs.declared.word.Word.{Word}
 use Rattle.trace_reader.specs.declared.word.Word.TheVariants as word
 
--- what a word is called
-abbrev pub word_name : Word → List ℕ
-word_name (word.Head head) = (head_rule head).name
-word_name word.Malloc = codes "a"
-word_name word.Free = codes "f"
-word_name word.Move = codes "p"
-word_name word.Release = codes "r"
-word_name word.Drain = codes "d"
-word_name word.Resize = codes "z"
-
--- the words that are no head's
-abbrev pub call_words : List Word
-call_words = word.Malloc ∷ word.Free ∷ word.Move ∷ word.Release ∷ word.Drain ∷ word.Resize ∷ []
-
 -- the call or the preemption that a field names
 abbrev pub call_word_of : List ℕ → Option Word
-call_word_of field = find (λ w. bytes_eq field (word_name w)) call_words
+call_word_of field =
+    if bytes_eq field (codes "a") then Some word.Malloc
+    else if bytes_eq field (codes "f") then Some word.Free
+    else if bytes_eq field (codes "p") then Some word.Move
+    else if bytes_eq field (codes "r") then Some word.Release
+    else if bytes_eq field (codes "d") then Some word.Drain
+    else if bytes_eq field (codes "z") then Some word.Resize
+    else None
 
 -- what a field names
 abbrev pub word_of : List ℕ → Option Word
@@ -31,12 +24,7 @@ word_of field = option_or (call_word_of field) (option_map (λ head. word.Head h
 
 abbrev pub is_head : Word → Bool
 is_head (word.Head head) = true
-is_head word.Malloc = false
-is_head word.Free = false
-is_head word.Move = false
-is_head word.Release = false
-is_head word.Drain = false
-is_head word.Resize = false
+is_head word = false
 
 -- the numbers that a field may have: from `least` to `most`
 pub record Range : Type 0 where
@@ -50,14 +38,11 @@ from_to least most = record { least = least; most = most }
 abbrev pub place : Range
 place = from_to 0 MOST_PLACE
 
-abbrev pub label : Range
-label = from_to 0 (MOST_LABELS - 1)
-
 -- the ranges of the values that stand behind a word: a T L N, f T L, p T I C, r T N, d T C and z T C K N
 abbrev pub ranges_of : Word → List Range
 ranges_of (word.Head head) = from_to (head_rule head).least (head_rule head).most ∷ []
-ranges_of word.Malloc = place ∷ label ∷ from_to 0 MOST_SIZE ∷ []
-ranges_of word.Free = place ∷ label ∷ []
+ranges_of word.Malloc = place ∷ from_to 0 (MOST_LABELS - 1) ∷ from_to 0 MOST_SIZE ∷ []
+ranges_of word.Free = place ∷ from_to 0 (MOST_LABELS - 1) ∷ []
 ranges_of word.Move = place ∷ from_to 1 MOST_BEFORE ∷ place ∷ []
 ranges_of word.Release = place ∷ from_to 0 MOST_RELEASED ∷ []
 ranges_of word.Drain = place ∷ place ∷ []

@@ -1,9 +1,9 @@
 //! Reading a trace line by line.
-ghost use Rattle.std.specs.Prelude.{ℕ, ◌≡◌, ◌<◌, ◌≤◌, Ok, Some, None, true, false, length, ◌+◌, OnOk, IfOk, IfErr, MatchResult};
+ghost use Rattle.std.specs.Prelude.{ℕ, ◌≡◌, ◌<◌, ◌≤◌, Ok, Some, None, true, false, length, drop, nat_le, ◌+◌, OnOk, IfOk, IfErr, MatchResult};
 ghost use Rattle.std.specs.Option.{option_map_or};
 ghost use Rattle.trace_reader.specs.Words.{is_head};
 ghost use Rattle.trace_reader.specs.Form.{is_head_form, IsInRange};
-ghost use Rattle.trace_reader.specs.Reading.{first_word, other_fields, is_past, thread_of, cpu_of, class_of, line_form, rules, verdict, nothing, read_line, with_call, with_form};
+ghost use Rattle.trace_reader.specs.Reading.{first_word, is_some_and, thread_of, cpu_of, class_of, line_form, rules, verdict, nothing, read_line, with_call, with_form};
 ghost use Rattle.tc_model.specs.Input.{label_end};
 ghost use Rattle.trace_reader.specs.Kept.{MayFollow};
 ghost use Rattle.trace_reader.specs.Steps.{broken, broken_label, so_far, line_at, IsLineFault, HasWord, Fits, IsReading, IsSoFar};
@@ -31,7 +31,7 @@ pub struct Reader {
 
 /// Whether a number is there and isn't below a bound.
 fn is_past(number: Option<u64>, bound: u64) -> bool
-    ensures { result ≡ is_past bound number }
+    ensures { result ≡ is_some_and (nat_le bound) number }
 {
     number.is_some_and(|n| n >= bound)
 }
@@ -83,7 +83,7 @@ fn is_head(word: Word) -> bool
 /// What the first of a line's fields names.
 fn read_first(line: &mut Fields) -> Option<Word>
     ensures word { result ≡ first_word line.old.fields }
-    ensures others { line.new.fields ≡ other_fields line.old.fields }
+    ensures others { line.new.fields ≡ drop 1 line.old.fields }
 {
     let field = line.next()?;
     read_word(field.bytes)
@@ -141,7 +141,7 @@ impl Reader {
     /// What a line's first field names, or the first rule on it that the line fails.
     fn judge_word(&self, line: &mut Fields) -> Result<Word, LineWhy>
         ensures word { (classes : ℕ) → MatchResult result (HasWord (line_at classes self.now line.old)) (λ why. verdict rules (line_at classes self.now line.old) ≡ Some why) }
-        ensures others { OnOk result (line.new.fields ≡ other_fields line.old.fields) }
+        ensures others { OnOk result (line.new.fields ≡ drop 1 line.old.fields) }
     {
         if line.line() > MOST_LINES {
             return Err(LineWhy::Lines);

@@ -1,4 +1,4 @@
-use Rattle.std.proofs.Common.{◌-◌, refl, arith}
+use Rattle.std.proofs.Common.{refl, arith}
 use Rattle.huge_cache.proofs.Greatest.{falling-take, below_leaves, none_below}
 use Rattle.huge_cache.proofs.uses.drop_below.Goals as goal
 

@@ -1,5 +1,4 @@
-use Rattle.std.proofs.Common.{◌<◌, length, refl, inl, inr, arith}
-use Rattle.huge_region.proofs.Common.{cases_lt}
+use Rattle.std.proofs.Common.{arith}
 use Rattle.std.proofs.lemmas.Bool.Decides.{nat_tests}
 use Rattle.huge_region.proofs.Apart.{found_there, none_behind, read_first}
 use Rattle.huge_region.proofs.regions.index_in.Goals as goal

@@ -10,8 +10,8 @@ use Rattle.part_lock.proofs.moved.drain.Goals as goal
 
 pub loop-i-preserved : goal.loop-i-preserved
 loop-i-preserved g c =
-    let t = c.take-part.ensures.others in let v = c.loop-i.invariant in let i : ℕ = c.loop-i.i in
-    let p = c.push_reserved.ensures.capacity in let q = c.push_reserved-in-loop-i.ensures.capacity in let count : slots_len c.take-part.new.self.slots ≡ slots_len c.loop-i.closed.slots = t.2 in
+    let t = c.take-journal.ensures.others in let v = c.loop-i.invariant in let i : ℕ = c.loop-i.i in
+    let p = c.push_reserved.ensures.capacity in let q = c.push_reserved-in-loop-i.ensures.capacity in let count : slots_len c.take-journal.new.self.slots ≡ slots_len c.loop-i.closed.slots = t.2 in
     let filled = slots_filled c.loop-i.closed.slots in
     let long : slots_len c.loop-i.closed.slots ≡ length filled = (slots_counts c.loop-i.closed.slots).1 in
     let below : i < slots_len c.loop-i.closed.slots = omega (arith, c.loop-i-test.true, c.slot_count.ensures) in record {
@@ -21,6 +21,6 @@ loop-i-preserved g c =
       count = t.2 ∙ v.count;
       room = omega (arith, v.room);
       room' = omega (arith, v.room');
-      so_far = carried (λ (x : Stall _). x.part) _ _ _ _ _ i c.push_reserved.ensures.items v.so_far c.take-part.ensures.value t.0;
-      so_far' = carried (λ (x : Stall _). x.entries) _ _ _ _ _ i c.push_reserved-in-loop-i.ensures.items v.so_far' c.take-part.ensures.value t.0;
+      so_far = carried (λ (x : Stall _). x.part) _ _ _ _ _ i c.push_reserved.ensures.items v.so_far c.take-journal.ensures.value t.0;
+      so_far' = carried (λ (x : Stall _). x.entries) _ _ _ _ _ i c.push_reserved-in-loop-i.ensures.items v.so_far' c.take-journal.ensures.value t.0;
     }

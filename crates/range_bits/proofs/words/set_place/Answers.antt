@@ -1,4 +1,4 @@
-use Rattle.std.proofs.Common.{length-set, ◌+◌, ◌-◌, ◌/◌, ◌%◌, arith}
+use Rattle.std.proofs.Common.{length-set, ◌+◌, ◌/◌, ◌%◌, arith}
 use Rattle.range_bits.proofs.BitFacts.{one_between}
 use Rattle.range_bits.proofs.Placing.{placed_none, placed_word, placed_all}
 use Rattle.range_bits.proofs.words.set_place.Goals as goal

@@ -5,9 +5,10 @@ use Rattle.part_lock.specs.Lock.{entry_of}
 use Rattle.relay.proofs.Overs.{all_say, all_ended, all_used, causes_of, lasts_are}
 use Rattle.std.proofs.lemmas.List.{length-map}
 use Rattle.std.proofs.Common.{arith}
-use Rattle.tc_model.specs.Rises.{AreApart, IsMerge}
+use Rattle.tc_model.specs.Rises.{AreApart}
+use Rattle.merge_journal.specs.Threads.{AreMerged}
 use Rattle.part_lock.specs.Joins.{numbers, lead_of, all_joined, Turned, Fit}
-use Rattle.relay.proofs.Wholes.{few_of, all_there, length_numbers, threads_stay, map_both, whole}
+use Rattle.relay.proofs.Wholes.{few_of, many, all_there, length_numbers, threads_stay, map_both, whole}
 use Rattle.relay.specs.Ends.{IsRun}
 use Rattle.relay.proofs.run.run_all.Goals as goal
 
@@ -28,8 +29,8 @@ close-requires-clause-main g c =
     let count : length before ≡ n = sym (length-map before (λ w. w.hand.thread.0)) ∙ (ap length c.in-Ok-seat_all.ensures.threads ∙ length_numbers n) in
     (all_joined m j.works, j.main, all_there c.in-Ok.parts.key n (map (λ w. w.hand) after) j.works j.threads (length-map after (λ w. w.hand) ∙ (c.run_workers-workers.ensures.long ∙ count)))
 
-pub merge-requires : goal.merge-requires
-merge-requires g c =
+pub merge_threads-requires : goal.merge_threads-requires
+merge_threads-requires g c =
     let m = lead_of c.in-Ok.parts.key (numbers (length c.args.locals.items)) in
     let j = c.in-Ok-join_all.ensures.main m c.in-Ok-seat_all.ensures.main in
     let closed = c.in-Ok-close.ensures.closed (all_joined m j.works) j.main in
@@ -45,9 +46,9 @@ returns-clause-run g c =
     let long = ap (λ x. length (rules x).locals) c.in-Ok.ensures.key.0 ∙ ap length (sym c.requires.locals) in
     let threads = j.threads ∙ (sym (threads_stay (Turned rules key) (Fit c.in-Ok.parts.table.shared.table_id key) before after (sym c.run_workers-workers.ensures.long) c.run_workers-workers.ensures.each) ∙ c.in-Ok-seat_all.ensures.threads) in
     let locals = c.in-Ok-join_all.ensures.locals ∙ (sym (map_both (λ w. w.hand) (λ h. h.local) after) ∙ sym j.locals) in
-    let merged = subst (λ l. IsMerge (map (λ v. v.items) l) c.in-Ok-merge.order.items) c.as_slice-3.ensures.value c.in-Ok-merge.ensures in
-    subst (λ x. IsRun (rules x) c.in-Ok-close.closed.parts.items c.in-Ok-join_all.locals.items c.in-Ok-merge.order.items) c.in-Ok.ensures.key.0
-    (whole rules key n j.works c.in-Ok-close.closed.parts.items c.in-Ok-join_all.locals.items _ c.in-Ok-merge.order.items long threads locals closed merged)
+    let merged = subst (λ l. AreMerged (map (λ v. v.items) l) c.in-Ok-merge_threads.order.items) c.as_slice-3.ensures.value c.in-Ok-merge_threads.ensures in
+    subst (λ x. IsRun (rules x) c.in-Ok-close.closed.parts.items c.in-Ok-join_all.locals.items c.in-Ok-merge_threads.order.items) c.in-Ok.ensures.key.0
+    (whole rules key n j.works c.in-Ok-close.closed.parts.items c.in-Ok-join_all.locals.items _ c.in-Ok-merge_threads.order.items long threads locals closed merged)
 
 pub returns-clause-few : goal.returns-clause-few
 returns-clause-few g c =
@@ -55,8 +56,8 @@ returns-clause-few g c =
     let m = lead_of key (numbers (length c.args.locals.items)) in
     let j = c.in-Ok-join_all.ensures.main m c.in-Ok-seat_all.ensures.main in
     let closed = c.in-Ok-close.ensures.closed (all_joined m j.works) j.main in
-    let merged = subst (λ l. IsMerge (map (λ v. v.items) l) c.in-Ok-merge.order.items) c.as_slice-3.ensures.value c.in-Ok-merge.ensures in
-    few_of key.events c.args.events closed.acts c.in-Ok-merge.order.items (closed.merged c.in-Ok-merge.order.items merged) closed.few c.in-Ok.ensures.key.1
+    let merged = subst (λ l. AreMerged (map (λ v. v.items) l) c.in-Ok-merge_threads.order.items) c.as_slice-3.ensures.value c.in-Ok-merge_threads.ensures in
+    few_of key.events c.args.events closed.acts merged (closed.merged merged.entries merged.merge) closed.few c.in-Ok.ensures.key.1
 
 pub returns-clause-ended : goal.returns-clause-ended
 returns-clause-ended g c none =
@@ -88,8 +89,8 @@ returns-clause-full g c full =
     let say = all_say rules c.in-Ok.parts.table.shared.table_id key c.in-Ok-seat_all.workers.items after (sym c.run_workers-workers.ensures.long) c.in-Ok-seat_all.ensures.ready c.in-Ok-seat_all.ensures.fresh c.run_workers-workers.ensures.each in
     let halt = sym (c.halt_of-halt.ensures ∙ ap halt_of c.as_slice.ensures.value) ∙ full in
     let used = all_used (lasts_of after) j.works key.events (length closed.acts) halt (causes_of after j.works j.views say.1) closed.filled closed.few in
-    let merged = subst (λ l. IsMerge (map (λ v. v.items) l) c.in-Ok-merge.order.items) c.as_slice-3.ensures.value c.in-Ok-merge.ensures in
-    ap length (closed.merged c.in-Ok-merge.order.items merged) ∙ (length-map closed.acts entry_of ∙ (used ∙ c.in-Ok.ensures.key.1))
+    let merged = subst (λ l. AreMerged (map (λ v. v.items) l) c.in-Ok-merge_threads.order.items) c.as_slice-3.ensures.value c.in-Ok-merge_threads.ensures in
+    many merged ∙ (ap length (closed.merged merged.entries merged.merge) ∙ (length-map closed.acts entry_of ∙ (used ∙ c.in-Ok.ensures.key.1)))
 
 pub returns-clause-lists : goal.returns-clause-lists
 returns-clause-lists g c =
@@ -98,10 +99,4 @@ returns-clause-lists g c =
     sym (length-map c.in-Ok-close.closed.entries.items (λ v. v.items)) ∙ (c.in-Ok-close.ensures.closed (all_joined m j.works) j.main).lists
 
 pub returns-clause-merged : goal.returns-clause-merged
-returns-clause-merged g c = subst (λ l. IsMerge (map (λ v. v.items) l) c.in-Ok-merge.order.items) c.as_slice-3.ensures.value c.in-Ok-merge.ensures
-
-pub returns-clause-apart : goal.returns-clause-apart
-returns-clause-apart g c =
-    let m = lead_of c.in-Ok.parts.key (numbers (length c.args.locals.items)) in
-    let j = c.in-Ok-join_all.ensures.main m c.in-Ok-seat_all.ensures.main in
-    (c.in-Ok-close.ensures.closed (all_joined m j.works) j.main).apart
+returns-clause-merged g c = subst (λ l. AreMerged (map (λ v. v.items) l) c.in-Ok-merge_threads.order.items) c.as_slice-3.ensures.value c.in-Ok-merge_threads.ensures

@@ -2,7 +2,7 @@ use Rattle.std.proofs.Common.{inl, ap, subst}
 use Rattle.std.specs.Prelude.{option_map}
 use Rattle.std.proofs.Common.{arith}
 use Rattle.tc_ports.specs.Whole.{ReadAllCounted, ReadAllRefused, PassedLimit}
-use Rattle.tcreplay.specs.Verdict.{and_then, asked_for}
+use Rattle.tcreplay.specs.Verdict.{and_then, asked_of_text, taken_by}
 use Rattle.tcreplay.specs.Seen.{seen_front}
 use Rattle.tcreplay.proofs.TraceFacts.{some_text_is, long_text, lost_passed}
 use Rattle.tcreplay.proofs.input.load_trace.Goals as goal
@@ -18,7 +18,7 @@ returns-in-Err-TooLong-clause-asked g c =
     record {
       text = long.0;
       told = long.1;
-      step = inl (ap (and_then (asked_for (option_map seen_front c.args.runner) c.args.table.now)) long.2, subst (λ f. ReadAllCounted f (g.S.Source.seen c.args.source.now).faults (g.S.Source.seen c.read_all.new.source).faults) c.in-Err-TooLong.field-0-is c.in-Err-TooLong.ensures.cause);
+      step = inl (ap (and_then (λ text. and_then (taken_by (option_map seen_front c.args.runner)) (asked_of_text c.args.table.now text))) long.2, subst (λ f. ReadAllCounted f (g.S.Source.seen c.args.source.now).faults (g.S.Source.seen c.read_all.new.source).faults) c.in-Err-TooLong.field-0-is c.in-Err-TooLong.ensures.cause);
       lost = lost_passed (g.S.Source.seen c.args.source.now).left (g.S.Source.seen c.read_all.new.source).left 67108864 passed;
       reads = c.in-Err-TooLong.ensures.reads;
       drained = λ is. absurd (cc);

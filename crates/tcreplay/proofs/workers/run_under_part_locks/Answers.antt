@@ -2,7 +2,7 @@ use Rattle.std.proofs.Common.{◌≡◌, Some, None, length, sym, ap, ◌∙◌,
 use Rattle.std.specs.Prelude.{All}
 use Rattle.tc_model.specs.declared.board.Halt.TheVariants.{Full}
 use Rattle.tc_model.specs.Run.{World}
-use Rattle.relay.specs.Ends.{IsRun, threads_in}
+use Rattle.relay.specs.Ends.{IsRun}
 use Rattle.tcreplay.proofs.WorkerFacts.{many_locals, parts_left}
 use Rattle.tcreplay.proofs.workers.run_under_part_locks.Goals as goal
 
@@ -20,7 +20,7 @@ returns-clause-left g c =
     let rules = g.M.Allocator.rules_of c.args.state.options in
     let left = c.in-Some.left in
     let input = c.args.state.input in
-    let picks = threads_in left.order.items in
+    let picks = left.order.items in
     let ruled = subst (λ q. IsRun q left.closed.parts.items left.locals.items left.order.items) c.split-machine.ensures.rules c.in-Some.ensures.run in
     let same = ap (λ n. g.M.Allocator.input n) c.in-Some.ensures.machine ∙ c.split-machine.ensures.input in
     let full = λ (is : left.halt ≡ Some Full). c.in-Some.ensures.full is ∙ c.requires.events in

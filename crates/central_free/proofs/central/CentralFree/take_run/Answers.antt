@@ -5,7 +5,7 @@ use Rattle.std.proofs.lemmas.Option.{same_Some}
 use Rattle.tc_units.specs.declared.units.Addr.{Addr}
 use Rattle.tc_units.specs.declared.spans.ClassRow.{ClassRow}
 use Rattle.span_list.specs.Span.{SpanState, IsCut}
-use Rattle.central_free.specs.Central.{Central, taken, taken_one, taken_one_from, IsSound, IsTakenIn, AreDifferent}
+use Rattle.central_free.specs.Central.{Central, taken, taken_one, IsSound, IsTakenIn, AreDifferent}
 use Rattle.central_free.specs.Runs.{span_after, given_by}
 use Rattle.central_free.specs.Slots.{spans_of}
 use Rattle.central_free.proofs.ChoiceFacts.{chosen_none, no_free-weight}
@@ -14,6 +14,7 @@ use Rattle.central_free.proofs.SlotFacts.{StandsAt, placed_at, slot_at-set, span
 use Rattle.central_free.proofs.PutFacts.{kept-set, taken-set, fresh-set}
 use Rattle.central_free.proofs.RunFacts.{span-span_after}
 use Rattle.central_free.proofs.TakeRuns.{run-taken}
+use Rattle.central_free.proofs.TookFacts.{taken_one_from}
 use Rattle.central_free.proofs.central.CentralFree.take_run.Goals as goal
 
 abbrev central_of : ClassRow → List SpanState → Central

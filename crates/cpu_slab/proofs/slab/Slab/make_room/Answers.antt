@@ -1,4 +1,4 @@
-use Rattle.std.proofs.Common.{◌-◌, arith}
+use Rattle.std.proofs.Common.{arith}
 use Rattle.cpu_slab.proofs.GrowthFacts.{victim_other, gave_other}
 use Rattle.cpu_slab.proofs.slab.Slab.make_room.Goals as goal
 

@@ -1,4 +1,4 @@
-use Rattle.std.proofs.Common.{◌-◌, arith}
+use Rattle.std.proofs.Common.{arith}
 use Rattle.huge_cache.proofs.Common.{nat_tests, get_or_past}
 use Rattle.huge_cache.proofs.Padded.{last-front, none-front}
 use Rattle.huge_cache.proofs.row.Row.last_free.Goals as goal

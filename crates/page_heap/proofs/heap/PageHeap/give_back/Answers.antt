@@ -1,5 +1,5 @@
 use Rattle.std.proofs.Common.{◌≡◌, ◌⊎◌, ◌/◌, false, sym, ap, ◌∙◌, arith}
-use Rattle.page_heap.proofs.Common.{RowKind, hugepage, is_kind_region, nat_tests}
+use Rattle.page_heap.proofs.Common.{RowKind, hugepage, is_kind, nat_tests}
 use Rattle.tc_units.specs.declared.rows.RowKind.TheVariants as kind
 use Rattle.page_heap.proofs.Results.{is_heap}
 use Rattle.page_heap.proofs.Routes.{first_near, first_low, first_high, route_region, route_others}
@@ -21,8 +21,8 @@ serves c = sym (c.kind.ensures.heap c.args.self.now (is_heap c.self.invariant c.
 pub free_in_region-requires-clause-route : goal.free_in_region-requires-clause-route
 free_in_region-requires-clause-route c = grind (arith, nat_tests, route_region, is_heap, serves)
 
-others : (k : RowKind) → (k ≡ kind.Free) ⊎ ((k ≡ kind.Run) ⊎ (k ≡ kind.Filler)) → is_kind_region k ≡ false
-others k h = grind (arith, nat_tests, is_kind_region)
+others : (k : RowKind) → (k ≡ kind.Free) ⊎ ((k ≡ kind.Run) ⊎ (k ≡ kind.Filler)) → is_kind kind.Region k ≡ false
+others k h = grind (arith, nat_tests, is_kind)
 
 pub free_in_hugepages-requires-clause-route : goal.free_in_hugepages-requires-clause-route
-free_in_hugepages-requires-clause-route c = grind (arith, nat_tests, serves, route_others, is_heap, is_kind_region, others)
+free_in_hugepages-requires-clause-route c = grind (arith, nat_tests, serves, route_others, is_heap, is_kind, others)

@@ -1,6 +1,6 @@
-use Rattle.std.proofs.Common.{◌≡◌, ℕ, ◌<◌, ◌≤◌, true, false, Option, Some, None, option_map, refl, sym, subst, ◌∙◌, arith}
+use Rattle.std.proofs.Common.{◌≡◌, ℕ, ◌<◌, ◌≤◌, true, false, Option, Some, None, option_map, refl, sym, subst, ◌∙◌}
 use Rattle.std.specs.Prelude.{MatchOption}
-use Rattle.page_heap.proofs.Common.{false≢true, Heap, Placed, new_unsettled, settled_placed, none_fits, IsSound, IsGiven}
+use Rattle.page_heap.proofs.Common.{false≢true, Heap, Placed, new_unsettled, settled, none_fits, IsSound, IsGiven}
 use Rattle.heap_rules.proofs.Given.{new_gives}
 use Rattle.page_heap.proofs.Stays.{new_lives, new_stays}
 use Rattle.page_heap.proofs.heap.PageHeap.new_run.Goals as goal
@@ -8,8 +8,10 @@ use Rattle.page_heap.proofs.heap.PageHeap.new_run.Goals.{After-settle}
 
 -- what the law says of an answer that is known
 by_answer : (heap : Heap) (n : ℕ) (o : Option Placed) → IsSound heap → 2 ≤ heap.config.region → 0 < n → new_unsettled heap n ≡ o →
-    MatchOption (option_map settled_placed o) (none_fits heap n ≡ true) (λ p. IsGiven heap n p × (none_fits heap n ≡ false))
-by_answer heap n o sound wide some e = grind (arith, option_map, new_gives)
+    MatchOption (option_map (λ (p : Placed). record p { heap = settled p.heap }) o) (none_fits heap n ≡ true) (λ p. IsGiven heap n p × (none_fits heap n ≡ false))
+by_answer heap n o sound wide some e =
+    subst (λ q. MatchOption (option_map (λ (p : Placed). record p { heap = settled p.heap }) q) (none_fits heap n ≡ true)
+        (λ p. IsGiven heap n p × (none_fits heap n ≡ false))) e (new_gives heap n sound wide some)
 
 pub returns-in_err-run-clause-none_fits : goal.returns-in_err-run-clause-none_fits
 returns-in_err-run-clause-none_fits c =

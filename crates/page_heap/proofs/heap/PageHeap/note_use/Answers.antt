@@ -1,4 +1,4 @@
-use Rattle.std.proofs.Common.{◌≡◌, ℕ, ◌-◌, not, get_or, map, count_by, ap, ◌∙◌, arith}
+use Rattle.std.proofs.Common.{◌≡◌, ℕ, not, get_or, map, count_by, ap, ◌∙◌, arith}
 use Rattle.page_heap.proofs.Common.{Heap, is_free_backed, Cache, over_count, Inside, heap_of, cache_of, IsKept, over_limit}
 use Rattle.huge_cache.specs.Cache.{noted}
 use Rattle.page_heap.proofs.Steps.{count-map}

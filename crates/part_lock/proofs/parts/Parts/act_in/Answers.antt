@@ -8,15 +8,27 @@ judge_held-requires-clause-holds g c = let (w, x, turn) = c.requires.turn in (x,
 
 pub store-requires : goal.store-requires
 store-requires g c = let (w, x, turn) = c.requires.turn in let (x', y, has, next, entries, same, _) = c.judge_held.ensures.same in
-    (c.judge_held.ensures.seat.0 ∙ c.requires.seat, omega (arith, c.args.self.now.sized), waits_as g.M.Machine.rules _ _ g.M.Machine.fits _ _ _ w x _ _ _ x' y _ turn has next entries same)
+    rw (c.word_of-word.ensures) (
+      c.judge_held.ensures.seat.0 ∙ c.requires.seat,
+      omega (arith, c.args.self.now.sized),
+      waits_as g.M.Machine.rules _ _ g.M.Machine.fits _ _ _ w x _ _ _ x' y _ turn has next entries same,
+    )
 
 pub store-requires-in-Yields : goal.store-requires-in-Yields
 store-requires-in-Yields g c = let (w, x, turn) = c.requires.turn in let (x', y, has, next, entries, same, _) = c.judge_held.ensures.same in
-    (c.judge_held.ensures.seat.0 ∙ c.requires.seat, omega (arith, c.args.self.now.sized), waits_as g.M.Machine.rules _ _ g.M.Machine.fits _ _ _ w x _ _ _ x' y _ turn has next entries same)
+    rw (c.word_of-word.ensures) (
+      c.judge_held.ensures.seat.0 ∙ c.requires.seat,
+      omega (arith, c.args.self.now.sized),
+      waits_as g.M.Machine.rules _ _ g.M.Machine.fits _ _ _ w x _ _ _ x' y _ turn has next entries same,
+    )
 
 pub store-requires-in-NoRoom : goal.store-requires-in-NoRoom
 store-requires-in-NoRoom g c = let (w, x, turn) = c.requires.turn in let (x', y, has, next, entries, same, _) = c.judge_held.ensures.same in
-    (c.judge_held.ensures.seat.0 ∙ c.requires.seat, omega (arith, c.args.self.now.sized), lacks_as g.M.Machine.rules _ _ g.M.Machine.fits _ _ _ w x _ _ _ x' y _ turn has next entries same)
+    rw (c.word_of-word.ensures) (
+      c.judge_held.ensures.seat.0 ∙ c.requires.seat,
+      omega (arith, c.args.self.now.sized),
+      lacks_as g.M.Machine.rules _ _ g.M.Machine.fits _ _ _ w x _ _ _ x' y _ turn has next entries same,
+    )
 
 pub act_now-requires-clause-turn : goal.act_now-requires-clause-turn
 act_now-requires-clause-turn g c = let (w, x, turn) = c.requires.turn in let (x', y, has, next, entries, same, goes) = c.in-Goes.ensures.same in

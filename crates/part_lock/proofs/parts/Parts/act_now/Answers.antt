@@ -8,7 +8,7 @@ fetch_add-ticket-requires g c = let (w, x, y, place) = c.requires.turn in
     (c.requires.seat, omega (arith, c.args.self.now.sized), draw_in g.M.Machine.rules _ _ g.M.Machine.fits _ _ _ w x _ _ _ y place)
 
 pub store-requires : goal.store-requires
-store-requires g c = let (w, x, y, place) = c.requires.turn in let drew = c.fetch_add-ticket.ensures in (
+store-requires g c = let (w, x, y, place) = c.requires.turn in let drew = c.fetch_add-ticket.ensures in rw (c.word_of-word.ensures) (
   drew.0 ∙ c.requires.seat,
   omega (arith, c.args.self.now.sized),
   full_in g.M.Machine.rules _ _ g.M.Machine.fits _ _ _ w x _ _ _ y place c.fetch_add-ticket.result _ drew.2 (omega arith),
@@ -21,7 +21,7 @@ act_held-requires-clause-holds g c = let (w, x, y, place) = c.requires.turn in
 pub store-requires-then-not-act_held : goal.store-requires-then-not-act_held
 store-requires-then-not-act_held g c =
     let (w, x, y, place) = c.requires.turn in let drew = c.fetch_add-ticket.ensures in
-    let (x', z, has, next, _, kept) = c.act_held.ensures.done in let (entries, same, _) = kept c.if-not-act_held.true in (
+    let (x', z, has, next, _, kept) = c.act_held.ensures.done in let (entries, same, _) = kept c.if-not-act_held.true in rw (c.word_of-word.ensures) (
       c.act_held.ensures.seat.0 ∙ (drew.0 ∙ c.requires.seat),
       omega (arith, c.args.self.now.sized),
       fail_in g.M.Machine.rules _ _ g.M.Machine.fits _ _ _ w x _ _ _ y place c.fetch_add-ticket.result _ drew.2 x' z _ (omega arith) has next entries same,
@@ -30,7 +30,7 @@ store-requires-then-not-act_held g c =
 pub store-requires-2 : goal.store-requires-2
 store-requires-2 g c =
     let (w, x, y, place) = c.requires.turn in let drew = c.fetch_add-ticket.ensures in
-    let (x', z, has, next, moved, _) = c.act_held.ensures.done in let (longer, acted, _) = moved c.if-not-act_held.false in (
+    let (x', z, has, next, moved, _) = c.act_held.ensures.done in let (longer, acted, _) = moved c.if-not-act_held.false in rw (c.word_of-word.ensures) (
       c.act_held.ensures.seat.0 ∙ (drew.0 ∙ c.requires.seat),
       omega (arith, c.args.self.now.sized),
       give_in g.M.Machine.rules _ _ g.M.Machine.fits _ _ _ w x _ _ _ y place c.fetch_add-ticket.result _ drew.2 x' z _ (omega arith) has next longer acted,

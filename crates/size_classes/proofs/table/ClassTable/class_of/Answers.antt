@@ -1,4 +1,4 @@
-use Rattle.std.proofs.Common.{◌-◌, arith}
+use Rattle.std.proofs.Common.{arith}
 use Rattle.size_classes.proofs.ClassFacts.{class_is, class_none}
 use Rattle.size_classes.proofs.Sizes.{size_read, sizes_rise}
 use Rattle.size_classes.proofs.table.ClassTable.class_of.Goals as goal

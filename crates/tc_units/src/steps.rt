@@ -4,7 +4,7 @@ ghost use Rattle.std.specs.Prelude.{◌≡◌, ◌+◌, ◌<◌};
 use std::marker::Model;
 use std::sync::ledger::{Blank, Book, Ledger, Share};
 
-/// How many keys were read to be compared. Only reading a key changes it.
+/// How many steps were done of those that a call promises to bound. Only a step changes it.
 #[derive(Drop)]
 pub struct Steps<L: Ledger> {
     book: Book<L>,
@@ -34,7 +34,7 @@ impl<L: Ledger> Steps<L> {
     }
 
     /// One step more.
-    pub(crate) fn tick(&mut self)
+    pub fn tick(&mut self)
         ensures { self.new ≡ self.old + 1 }
     {
         self.book.add(&mut self.share, 1);
