@@ -113,8 +113,11 @@ module _ (w : ℕ) where
   apart_with from [] r apart some low free = (low, tt)
   apart_with from (x ∷ rows) r apart some low free =
       let passed : (h : ℕ) → r.first ≤ h → h < r.first + w → x.first ≤ h → x.first + w ≤ h =
-          λ h a b l. elim (cases_lt h (x.first + w)) [ inl in_it ↦ absurd (none-some x (sym (free h a b)
-          ∙ rw (spans_from w h x.first l in_it) refl)) | inr past ↦ past ] in
+      λ h a b l. elim (cases_lt h (x.first + w)) [
+        | inl in_it ↦ absurd (none-some x (sym (free h a b)
+            ∙ rw (spans_from w h x.first l in_it) refl))
+        | inr past ↦ past
+      ] in
       grind (arith, nat_tests, apart_with (x.first + w) rows r apart.1 some, passed x.first, passed r.first, spans_behind w, free)
 
   -- A row leaves.

@@ -51,8 +51,8 @@ chosen all keys n key sound index is =
     let in_rows : Contains all.rows x = All-filter (has_room n) (Contains all.rows) all.rows (All-contains_itself all.rows) i d l in
     let long_too : n ≤ longest x.used = leb-true n (longest x.used) (filter_passes (has_room n) all.rows i d l) in
     let after : comes_before (key_of x) (key_of r) ≡ false =
-        subst (λ (k : RegionKey). comes_before (key_of x) k ≡ false) (sym there.2) (All-contains (λ k. comes_before k (least_of n) ≡ false
-        → comes_before k key ≡ false) keys (key_of x) is.first (key_held comes_before total key_of all.rows keys x index in_rows) (not_before n (key_of x) long_too)) in
+    subst (λ (k : RegionKey). comes_before (key_of x) k ≡ false) (sym there.2) (All-contains (λ k. comes_before k (least_of n) ≡ false
+    → comes_before k key ≡ false) keys (key_of x) is.first (key_held comes_before total key_of all.rows keys x index in_rows) (not_before n (key_of x) long_too)) in
     elim (cases_Bool (comes_before (key_of r) (key_of x))) [
       | inl before ↦ inr (preferred_is r x ∙ before, preferred_is x r ∙ after)
       | inr level ↦ inl (one_region all x r sound in_rows held (ap (λ (k : RegionKey). k.first.0) (total.same (key_of x) (key_of r) after level)))

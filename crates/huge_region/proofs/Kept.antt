@@ -171,7 +171,7 @@ gone v keys keys' spare spare' rows' h place old key kept at empty key_is moved 
     let sound = kept.sound in
     let stays : RegionRow → Bool = λ x. not (x.first == old.first) in
     let rows_are : rows' ≡ filter stays v.rows = removed ∙ sym (removed_is w 1 v.rows place old sound.apart (omega (arith, sound.wide)) at.inside)
-        ∙ ap (λ (r : RegionRow). without_key (λ (x : RegionRow). x.first) r.first v.rows) at.is in
+    ∙ ap (λ (r : RegionRow). without_key (λ (x : RegionRow). x.first) r.first v.rows) at.is in
     let high : RegionRow → Type 0 = λ x. x.first + w ≤ v.huge + 1 in
     let sized : RegionRow → Type 0 = λ x. length x.used ≡ huge_pages * w in
     record {

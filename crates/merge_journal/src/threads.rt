@@ -57,11 +57,7 @@ fn put_list<L: Ledger>(placed: &mut [Option<ThreadNo>], entries: &[Entry], steps
 }
 
 /// Puts the threads of the entries of lists at their tickets.
-fn put_lists<L: Ledger>(
-    placed: &mut [Option<ThreadNo>],
-    lists: &[Vec<Entry>],
-    steps: &mut Steps<L>,
-)
+fn put_lists<L: Ledger>(placed: &mut [Option<ThreadNo>], lists: &[Vec<Entry>], steps: &mut Steps<L>)
     requires tickets { (e : Entry) → Has (all_in (map (λ v. v.items) lists.now)) e → e.ticket < length placed.old }
     ensures placed { placed.new ≡ put_all placed.old (all_in (map (λ v. v.items) lists.now)) }
     ensures counted { steps.new ≡ steps.old + sum_by (λ v. length v.items) lists.now }

@@ -65,7 +65,7 @@ module _ {X P L : Type 0} where
     abbrev pub InTurn : (X → P → L → Type 0) → ℕ → ℕ → L → Work X P L → Stall P → Mine X P L → Type 0
     InTurn fits thread part l w x me =
         (me ≡ (Works (at_stage (Taken (hold part x)) w), (part, x) ∷ [])) × IsReady key thread l w (Works w, []) × (w.cause ≡ 0)
-            × ((mach key.machine).want l ≡ Some (part_no part)) × fits key.machine x.part l × Fresh w part (length x.entries.items)
+        × ((mach key.machine).want l ≡ Some (part_no part)) × fits key.machine x.part l × Fresh w part (length x.entries.items)
 
     -- the same, and the part lies as y, with room for an entry, and goes on
     abbrev pub InPlace : (X → P → L → Type 0) → ℕ → ℕ → L → Work X P L → Stall P → Stall P → Mine X P L → Type 0
@@ -81,7 +81,7 @@ module _ {X P L : Type 0} where
     abbrev pub Moves : Work X P L → L → L → Mine X P L → Hold P → ℕ → Type 0
     Moves w l l' me h t =
         Turns w l h × ((mach key.machine).waits h.part l ≡ false) × ((mach key.machine).yields h.part l ≡ true)
-            × (l' ≡ ((mach key.machine).after h.part l).1) × (me ≡ (Works (entered h t l' w), [])) × (t < key.events)
+        × (l' ≡ ((mach key.machine).after h.part l).1) × (me ≡ (Works (entered h t l' w), [])) × (t < key.events)
 
     -- the turn ended without an entry, and the seat has this cause
     abbrev pub Leaves : Work X P L → L → L → Mine X P L → Hold P → ℕ → Bool → Type 0

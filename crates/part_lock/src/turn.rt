@@ -146,7 +146,7 @@ impl<M: Machine> Parts<M> {
         ensures seat { (seat.new.table_id ≡ seat.old.table_id) × (seat.new.id ≡ seat.old.id) }
         ensures done { (x : _) × (y : _) × HoldsOnly part x seat.old.me × (seat.new.me ≡ (seat.old.me.0, (part, y) ∷ []))
             × (result ≡ true → (y.entries.items ≡ x.entries.items ++ entry ∷ []) × (y.part ≡ ((M.rules self.now.key.machine).after x.part local.old).0)
-                × (local.new ≡ ((M.rules self.now.key.machine).after x.part local.old).1))
+            × (local.new ≡ ((M.rules self.now.key.machine).after x.part local.old).1))
             × (result ≡ false → (y.entries.items ≡ x.entries.items) × (y.part ≡ x.part) × (local.new ≡ local.old)) }
     {
         let stall = seat.slot_mut(&self.table.shared, part);

@@ -12,9 +12,11 @@ use Rattle.merge_journal.proofs.threads.merge_threads_counted.Goals as goal
 pub put_lists-requires : goal.put_lists-requires
 put_lists-requires g c =
     let long = ap length c.deref_mut.ensures.value ∙ (ap length c.in_ok-placed.ensures ∙ length-replicate c.places_for.result None) in
-    record { tickets = λ e h.
-        let low = c.places_for.ensures.enough e h in
-        omega (arith, low, long) }
+    record {
+      tickets = λ e h.
+          let low = c.places_for.ensures.enough e h in
+          omega (arith, low, long);
+    }
 
 pub returns-clause-merged : goal.returns-clause-merged
 returns-clause-merged g c =

@@ -21,9 +21,9 @@ loop-list-preserved c =
           (λ (r : Has v.items e). let low = c.places_of.ensures.enough e (subst (λ l. Has l e) (sym c.deref.ensures.value) r) in omega arith)
           (more_has (map (λ v. v.items) (take i lists)) v.items e (rw next at h))),
       (λ most below.
-      let before = c.loop-list.invariant.1 most below in
-      let here = c.places_of.ensures.least most (λ e h. below e (row_at (map (λ v. v.items) lists) i v.items e at (subst (λ l. Has l e) c.deref.ensures.value h))) in
-      grind (arith, c.max-places.ensures)),
+          let before = c.loop-list.invariant.1 most below in
+          let here = c.places_of.ensures.least most (λ e h. below e (row_at (map (λ v. v.items) lists) i v.items e at (subst (λ l. Has l e) c.deref.ensures.value h))) in
+          grind (arith, c.max-places.ensures)),
     )
 
 pub returns-clause-enough : goal.returns-clause-enough

@@ -8,9 +8,11 @@ pub put_list-requires : goal.put_list-requires
 put_list-requires g c =
     let lists = c.args.lists.now in let i = c.loop-list.list-index in
     let at = list_at (λ v. v.items) lists i c.list-item.result c.loop-list-test.true c.list-item.is in
-    record { tickets = λ e h.
-        let low = c.requires.tickets e (row_at (map (λ v. v.items) lists) i c.list-item.result.items e at (subst (λ l. Has l e) c.deref.ensures.value h)) in
-        omega (arith, low, c.loop-list.auto.placed) }
+    record {
+      tickets = λ e h.
+          let low = c.requires.tickets e (row_at (map (λ v. v.items) lists) i c.list-item.result.items e at (subst (λ l. Has l e) c.deref.ensures.value h)) in
+          omega (arith, low, c.loop-list.auto.placed);
+    }
 
 pub loop-list-preserved : goal.loop-list-preserved
 loop-list-preserved g c =

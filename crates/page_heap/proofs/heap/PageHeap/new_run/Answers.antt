@@ -11,7 +11,7 @@ by_answer : (heap : Heap) (n : ℕ) (o : Option Placed) → IsSound heap → 2 �
     MatchOption (option_map (λ (p : Placed). record p { heap = settled p.heap }) o) (none_fits heap n ≡ true) (λ p. IsGiven heap n p × (none_fits heap n ≡ false))
 by_answer heap n o sound wide some e =
     subst (λ q. MatchOption (option_map (λ (p : Placed). record p { heap = settled p.heap }) q) (none_fits heap n ≡ true)
-        (λ p. IsGiven heap n p × (none_fits heap n ≡ false))) e (new_gives heap n sound wide some)
+    (λ p. IsGiven heap n p × (none_fits heap n ≡ false))) e (new_gives heap n sound wide some)
 
 pub returns-in_err-run-clause-none_fits : goal.returns-in_err-run-clause-none_fits
 returns-in_err-run-clause-none_fits c =
