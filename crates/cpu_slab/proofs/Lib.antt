@@ -1,5 +1,4 @@
 pub mod Victims
-pub mod Places
 pub mod SlabFacts
 pub mod LaidOut
 pub mod GrowthFacts

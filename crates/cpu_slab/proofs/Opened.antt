@@ -1,5 +1,6 @@
 -- A slab at its opening.
-use Rattle.std.proofs.Common.{◌≡◌, ℕ, ◌*◌, ◌<◌, List, [], ◌∷◌, length, map, get_or, replicate, All, refl, sym, ap, ◌∙◌, arith}
+use Rattle.std.proofs.Common.{◌≡◌, ℕ, ◌<◌, List, [], ◌∷◌, length, map, get_or, replicate, All, refl, sym, ap, ◌∙◌, arith}
+use Rattle.std.specs.Simd.Lanes.{zip2}
 use Rattle.std.proofs.lemmas.List.{length-map, length-replicate}
 use Rattle.std.proofs.lemmas.List.Elements.{All-map}
 use Rattle.std.proofs.lemmas.List.Sums.{sum_by-cons}
@@ -8,10 +9,9 @@ use Rattle.cpu_slab.specs.declared.marks.ClassMarks.{ClassMarks}
 use Rattle.cpu_slab.specs.Slots.{SlabRow, null, empty_row, opened}
 use Rattle.cpu_slab.specs.Growth.{used}
 use Rattle.cpu_slab.specs.Sound.{AreSlabLimits, IsSoundRow, IsSoundSlab}
-use Rattle.cpu_slab.specs.Layout.{slab_of, IsLaidOut}
+use Rattle.cpu_slab.specs.Layout.{row_of, slab_of, IsLaidOut}
 use Rattle.cpu_slab.proofs.LaidOut.{laid_out}
 use Rattle.tc_units.specs.declared.units.Addr.{Addr}
-use Rattle.cpu_slab.proofs.Places.{rows_of-opened}
 
 used_opened : (most : ℕ) (rows : List ClassRow) → used (map (empty_row most) rows) ≡ 0
 used_opened most [] = refl
@@ -34,17 +34,20 @@ sound_opened rows most limit limits sizes =
 abbrev pub first_marks : ClassRow → ClassMarks
 first_marks row = record { size = row.size; batch = row.batch; cap = 0; top = 0 }
 
+rows_opened : (most : ℕ) (rows : List ClassRow)
+    → zip2 row_of (map first_marks rows) (replicate (length rows) (replicate most null)) ≡ map (empty_row most) rows
+rows_opened most [] = refl
+rows_opened most (row ∷ rows) = ap (λ rs. empty_row most row ∷ rs) (rows_opened most rows)
+
 -- a representation of them
-module _ (rows : List ClassRow) (most limit : ℕ) where
-  abbrev slots : List Addr
-  slots = replicate (length rows * most) null
+module _ (rows : List ClassRow) (most limit : ℕ) {marks : List ClassMarks} {slots : List (List Addr)}
+    (marks_are : marks ≡ map first_marks rows) (slots_are : slots ≡ replicate (length rows) (replicate most null)) where
+  pub opened_is : slab_of most limit marks slots ≡ opened rows most limit
+  opened_is = rw (marks_are, slots_are) (ap (λ (rs : List SlabRow). record { most = most; limit = limit; rows = rs }) (rows_opened most rows))
 
-  pub opened_is : {marks : List ClassMarks} {places : List Addr} → marks ≡ map first_marks rows → places ≡ slots → slab_of most limit marks places ≡ opened rows most limit
-  opened_is marks_are places_are = rw (marks_are, places_are) (ap (λ (rs : List SlabRow). record { most = most; limit = limit; rows = rs }) (rows_of-opened most rows))
-
-  pub opened_out : {marks : List ClassMarks} {places : List Addr} → AreSlabLimits (length rows) most limit → All (λ (row : ClassRow). 0 < row.size) rows → marks ≡ map first_marks rows
-      → places ≡ slots → IsLaidOut most limit 0 marks places
-  opened_out {marks} {places} limits sizes marks_are places_are =
+  pub opened_out : AreSlabLimits (length rows) most limit → All (λ (row : ClassRow). 0 < row.size) rows → IsLaidOut most limit 0 marks slots
+  opened_out limits sizes =
       let classes : length marks ≡ length rows = ap length marks_are ∙ length-map rows first_marks in
-      let size : length places ≡ length rows * most = ap length places_are ∙ length-replicate (length rows * most) null in
-      laid_out marks places (opened_is marks_are places_are) (size ∙ ap (λ n. n * most) (sym classes)) (sym (used_opened most rows)) (sound_opened rows most limit limits sizes)
+      let count : length slots ≡ length rows = ap length slots_are ∙ length-replicate (length rows) (replicate most null) in
+      let sound = sound_opened rows most limit limits sizes in
+      laid_out marks slots opened_is (count ∙ sym classes) (sym (used_opened most rows)) sound

@@ -5,6 +5,7 @@
 mod laws;
 mod marks;
 mod slab;
+mod slots;
 #[cfg(test)]
 mod tests;
 

@@ -8,6 +8,7 @@ ghost use Rattle.cpu_slab.specs.Growth.{used, unused, victim, given_up, roomy, g
 ghost use Rattle.cpu_slab.specs.Sound.{AreSlabLimits, IsSoundRow, IsSoundSlab};
 
 use crate::marks::{self, ClassMarks, Unused};
+use crate::slots::ClassSlots;
 use std::alloc::{AllocError, Global};
 use std::marker::Model;
 use tc_units::{Addr, Class, ClassRow};
@@ -21,7 +22,7 @@ pub enum CapFault {
     OverLimit { sum: u64 },
 }
 
-/// For each class its slots, in one vector, with its top and its capacity.
+/// For each class its slots, its top and its capacity.
 #[derive(Drop)]
 pub struct Slab {
     /// Slots of each class.
@@ -31,7 +32,7 @@ pub struct Slab {
     /// The sum of all capacities, in bytes.
     counted: u64,
     marks: Vec<ClassMarks>,
-    slots: Vec<Addr>,
+    slots: Vec<ClassSlots>,
 }
 
 impl Model for Slab {
@@ -51,7 +52,8 @@ impl Slab {
     ghost use Rattle.cpu_slab.specs.Layout.{AreMarksOf};
 
     /// The slab of the classes of a table, with `most` slots for each and at most `limit` bytes of
-    /// capacity. All tops and capacities are 0. All memory of the slab is taken here.
+    /// capacity. All tops and capacities are 0. All memory of the slab is taken here, and that of the
+    /// slots isn't written before something is stored there.
     pub fn open(alloc: Global, rows: &[ClassRow], most: u32, limit: u64) -> Result<Self, AllocError>
         requires limits { AreSlabLimits (length rows.now) most limit }
         requires sizes { All (λ row. 0 < row.size) rows.now }
@@ -59,7 +61,7 @@ impl Slab {
         ensures sound { IfOk result IsSoundSlab }
     {
         let marks = marks_of(alloc, rows)?;
-        let slots = empty_slots(alloc, rows.len() * most as usize)?;
+        let slots = empty_slots(alloc, rows.len(), most as usize)?;
         Ok(Slab {
             most,
             limit,
@@ -93,7 +95,7 @@ impl Slab {
         requires place { i < self.now.most }
         ensures slot { result ≡ slot_of (row_at self.now class.0) i }
     {
-        self.slots[class.0 as usize * self.most as usize + i as usize]
+        self.slots[class.0 as usize].get(i as usize)
     }
 
     /// Stores an address in a slot of a class, and changes no other place.
@@ -103,7 +105,7 @@ impl Slab {
         ensures stored { self.new ≡ with_slot self.old class.0 i a }
         ensures sound { IsSoundSlab self.new }
     {
-        self.slots[class.0 as usize * self.most as usize + i as usize] = a;
+        self.slots[class.0 as usize].set(i as usize, a);
     }
 
     /// Sets the top of a class.
@@ -268,9 +270,13 @@ fn marks_of(alloc: Global, rows: &[ClassRow]) -> Result<Vec<ClassMarks>, AllocEr
         .collect(alloc)
 }
 
-/// So many slots, in which nothing was stored.
-fn empty_slots(alloc: Global, n: usize) -> Result<Vec<Addr>, AllocError>
-    ensures { IfOk result (λ slots. slots.items ≡ replicate n null) }
+/// For each of so many classes `most` slots, in which nothing was stored.
+fn empty_slots(alloc: Global, classes: usize, most: usize) -> Result<Vec<ClassSlots>, AllocError>
+    ensures { IfOk result (λ slots. slots.items ≡ replicate classes (replicate most null)) }
 {
-    vec![in alloc; Addr(0); n]
+    let mut slots = Vec::with_capacity(alloc, classes)?;
+    for _class in 0..classes {
+        slots.push_reserved(ClassSlots::open(alloc, most)?);
+    }
+    Ok(slots)
 }

@@ -12,7 +12,8 @@ fn three(alloc: Global, most: u32, limit: u64) -> Result<Slab, AllocError>
     requires some { 0 < most }
     requires most { most ≤ 2048 }
     requires limit { limit ≤ 268435456 }
-    ensures { IfOk result (λ slab. length slab.rows ≡ 3) }
+    ensures classes { IfOk result (λ slab. length slab.rows ≡ 3) }
+    ensures slots { IfOk result (λ slab. slab.most ≡ most) }
 {
     let rows = [(16, 4), (32, 2), (40, 1)].map(|(size, batch)| ClassRow {
         size,
@@ -67,7 +68,8 @@ fn sets(
     cap: u32,
 )
     requires class { class.0 < length slab.old.rows }
-    ensures { length slab.new.rows ≡ length slab.old.rows }
+    ensures classes { length slab.new.rows ≡ length slab.old.rows }
+    ensures slots { slab.new.most ≡ slab.old.most }
 {
     assert_eq!(rt; slab.top(class), 0);
     assert_eq!(rt; slab.set_cap(class, n), answer, "{n}");
@@ -115,5 +117,39 @@ fn stores_one_place(rt: HostRuntime) -> Result<(), Fail> {
     }
     assert_eq!(rt; slab.top(Class(1)), 2);
     assert_eq!(rt; slab.top(Class(2)), 0);
+    Ok(())
+}
+
+/// Stores an address in a slot of the second class, and compares what all its slots hold then.
+fn stores(rt: &impl Abort, slab: &mut Slab, i: u32, addr: u64, slots: [u64; 6])
+    requires classes { length slab.old.rows ≡ 3 }
+    requires slots { slab.old.most ≡ 6 }
+    ensures classes { length slab.new.rows ≡ 3 }
+    ensures slots { slab.new.most ≡ 6 }
+{
+    let class = Class(1);
+    assert!(rt; i < slab.cap(class));
+    slab.set_slot(class, i, Addr(addr));
+    for place in 0..6 {
+        assert_eq!(rt;
+            slab.slot(class, place),
+            Addr(slots[place as usize]),
+            "{i} {place}"
+        );
+    }
+}
+
+#[test]
+fn stores_above_what_was_written(rt: HostRuntime) -> Result<(), Fail> {
+    let mut slab = three(rt.alloc(), 6, 1000)?;
+    sets(&rt, &mut slab, Class(1), 3, Ok(()), 3);
+    stores(&rt, &mut slab, 1, 64, [0, 64, 0, 0, 0, 0]);
+    sets(&rt, &mut slab, Class(1), 6, Ok(()), 6);
+    stores(&rt, &mut slab, 4, 96, [0, 64, 0, 0, 96, 0]);
+    stores(&rt, &mut slab, 3, 128, [0, 64, 0, 128, 96, 0]);
+    stores(&rt, &mut slab, 5, 32, [0, 64, 0, 128, 96, 32]);
+    stores(&rt, &mut slab, 1, 160, [0, 160, 0, 128, 96, 32]);
+    assert_eq!(rt; slab.slot(Class(0), 1), Addr(0));
+    assert_eq!(rt; slab.slot(Class(2), 4), Addr(0));
     Ok(())
 }

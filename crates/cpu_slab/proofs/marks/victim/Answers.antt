@@ -1,5 +1,5 @@
 use Rattle.cpu_slab.proofs.Victims.{victim_more, victim_same}
-use Rattle.cpu_slab.proofs.Places.{no_marks}
+use Rattle.cpu_slab.proofs.LaidOut.{no_marks}
 use Rattle.cpu_slab.proofs.marks.victim.Goals as goal
 use Rattle.cpu_slab.proofs.marks.victim.Goals.{then-i-class, else-i-class}
 use Rattle.std.proofs.Common.{◌∙◌}

@@ -5,7 +5,7 @@ pub returns-clause-opened : goal.returns-clause-opened
 returns-clause-opened c = opened_is c.args.rows.now c.args.most c.args.limit c.in_ok-marks.ensures c.in_ok-slots.ensures
 
 pub invariant_of-result : goal.invariant_of-result
-invariant_of-result c = opened_out c.args.rows.now c.args.most c.args.limit c.requires.limits c.requires.sizes c.in_ok-marks.ensures c.in_ok-slots.ensures
+invariant_of-result c = opened_out c.args.rows.now c.args.most c.args.limit c.in_ok-marks.ensures c.in_ok-slots.ensures c.requires.limits c.requires.sizes
 
 pub returns-clause-sound : goal.returns-clause-sound
 returns-clause-sound c = (invariant_of-result c).sound

@@ -8,4 +8,4 @@ pub returns : goal.returns
 returns c =
     let s = c.self.inside in
     c.victim.ensures ∙ ap (λ (ms : List ClassMarks). victim c.args.k 0 (map (λ (m : ClassMarks). (m.cap - m.top) * m.size) ms)) c.deref.ensures.value
-    ∙ ap (victim c.args.k 0) (read_unused s.marks.items s.slots.items c.self.view_is)
+    ∙ ap (victim c.args.k 0) (read_unused s.marks.items s.slots.items c.self.view_is c.self.invariant)
