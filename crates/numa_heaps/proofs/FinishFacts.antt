@@ -7,20 +7,19 @@ use Rattle.tc_units.specs.Classes.{length_of}
 use Rattle.tc_units.specs.declared.spans.Run.{Run}
 use Rattle.tc_units.specs.declared.rows.RowView.{RowView}
 use Rattle.tc_model.specs.declared.answers.CallLine.{CallLine}
-use Rattle.tc_model.specs.Blocks.{IsBlockRun, live_count, live_bytes}
+use Rattle.tc_model.specs.Blocks.{IsBlockRun, live_bytes}
 use Rattle.tc_model.specs.Input.{Input}
 use Rattle.tc_model.specs.Replays.{HaveEnded}
 use Rattle.tc_model.specs.Run.{World, run, start, world_of}
 use Rattle.heap_rules.specs.declared.config.HeapConfig.{HeapConfig}
 use Rattle.heap_rules.specs.Heap.{Heap, used_pages, backed_pages}
 use Rattle.call_steps.specs.declared.setting.Setting.{Setting}
-use Rattle.alloc_rules.specs.Inputs.{setting_of, IsValidInput, is_common, not_taken}
+use Rattle.alloc_rules.specs.Inputs.{setting_of}
 use Rattle.tc_model.specs.Steps.{moving}
 use Rattle.alloc_rules.proofs.Orders.{order_is}
 use Rattle.node_rules.proofs.NodesLaw.{nodes_are_lawful}
 use Rattle.alloc_rules.specs.declared.part.Part.TheVariants as part
 use Rattle.alloc_rules.specs.Law.{calls}
-use Rattle.alloc_rules.specs.Machine.{parts_of}
 use Rattle.alloc_rules.specs.Told.{TellsScripts}
 use Rattle.alloc_rules.proofs.Numbers.{get_heap}
 use Rattle.tc_machine.specs.declared.standing.Standing.{Standing}
@@ -31,8 +30,11 @@ use Rattle.node_rules.specs.Joined.{told_line, lines_at}
 use Rattle.node_rules.specs.Beside.{Beside}
 use Rattle.node_rules.specs.Numa.{NodeLocal, NodePart, numa_rules, numa_calls}
 use Rattle.node_rules.specs.NumaLaw.{HoldsAfter, order_at}
+use Rattle.tc_machine.specs.Inputs.{input_under}
+use Rattle.numa_heaps.specs.declared.machine.NumaMachine.{NumaMachine}
 use Rattle.numa_heaps.specs.Machine.{arena, finished_in, heap_at, heap_place, over_nodes, runs_to, rows_to, HasHeap}
-use Rattle.numa_heaps.proofs.Pages.{heap_is, sum_more}
+use Rattle.numa_heaps.proofs.Pages.{heap_is}
+use Rattle.numa_heaps.proofs.Ranges.{sum_next}
 
 module _ {nodes : ℕ} {input : Input} {order : List ℕ} (h : HoldsAfter nodes input order) {parts : List NodePart} {locals : List (Beside NodeLocal)}
     (is : world_of parts locals ≡ run (numa_rules nodes input) order) where
@@ -48,13 +50,9 @@ module _ {nodes : ℕ} {input : Input} {order : List ℕ} (h : HoldsAfter nodes 
   -- each node's heap is there
   heap_there : (k : ℕ) → (low : k < nodes) → slice_get parts (heap_place setting k) ≡ Some (part.Heap (h.at_nodes k low).holds.parts.heap)
   heap_there k low =
-      let n = h.at_nodes k low in
-      let all = n.holds in
-      let classes : 0 + length all.parts.shards ≡ length input.rows = omega (arith, all.counts.shards) in
-      ap (λ (ps : List NodePart). slice_get ps (heap_place setting k)) parts_are
-      ∙ (n.of.parts (length input.rows) (omega arith)
-      ∙ (ap (λ (v : World NodePart NodeLocal). slice_get v.parts (length input.rows)) all.is
-      ∙ (ap (slice_get (parts_of 0 all.parts)) (sym classes) ∙ get_heap 0 all.parts (omega arith))))
+      let all = (h.at_nodes k low).holds in
+      let classes : length input.rows ≡ 0 + length all.parts.shards = omega (arith, all.counts.shards) in
+      rw parts_are ((h.at_nodes k low).of.parts (length input.rows) (omega arith) ∙ rw (all.is, classes) (get_heap 0 all.parts (omega arith)))
 
   pub has_heap : (k : ℕ) → k < nodes → HasHeap setting parts k
   has_heap k low =
@@ -65,39 +63,28 @@ module _ {nodes : ℕ} {input : Input} {order : List ℕ} (h : HoldsAfter nodes 
       }
 
   -- the calls that are told
+  pub told_are : numa_calls locals order ≡ (finished_in nodes input order).calls
+  told_are = ap (λ (v : World NodePart (Beside NodeLocal)). numa_calls v.locals order) is
+
   lines_are : {lines : List CallLine} → lines ≡ numa_calls locals order → lines ≡ map (told_line input.asked.config.huge) h.lines
-  lines_are told = told ∙ (ap (λ (v : World NodePart (Beside NodeLocal)). numa_calls v.locals order) is ∙ h.told)
+  lines_are told = told ∙ (told_are ∙ h.told)
 
   pub blocks_are : {lines : List CallLine} → lines ≡ numa_calls locals order → IsBlockRun (arena nodes input) (length_of input.rows) lines
-  blocks_are told = subst (IsBlockRun (arena nodes input) (length_of input.rows)) (sym (lines_are told)) h.joined.run
+  blocks_are told = rw (lines_are told) h.joined.run
 
   pub scripts_are : {lines : List CallLine} → HaveEnded (numa_rules nodes input) w → lines ≡ numa_calls locals order → TellsScripts input.asked lines
-  scripts_are ended told =
-      subst (TellsScripts input.asked) (sym (told ∙ ap (λ (v : World NodePart (Beside NodeLocal)). numa_calls v.locals order) is)) (h.all_told ended)
+  scripts_are ended told = subst (TellsScripts input.asked) (sym (told ∙ told_are)) (h.all_told ended)
 
   pub rising_is : (t : ℕ) (l : Beside NodeLocal) → slice_get locals t ≡ Some l → slice_get w.locals t ≡ Some l
   rising_is t l at = ap (λ (v : World NodePart (Beside NodeLocal)). slice_get v.locals t) (sym is) ∙ at
 
-  -- the calls that are told of the run
-  pub told_are : numa_calls locals order ≡ (finished_in nodes input order).calls
-  told_are = ap (λ (v : World NodePart (Beside NodeLocal)). numa_calls v.locals order) is
-
-  pub totals_are : {lines : List CallLine} {s : Standing} {count used resident : ℕ} {rows : List RowView} → lines ≡ numa_calls locals order → AreStanding lines s → count ≡ length lines
+  pub totals_are : {lines : List CallLine} {s : Standing} {count used resident : ℕ} {rows : List RowView}
+      → lines ≡ numa_calls locals order → AreStanding lines s → count ≡ length lines
       → used ≡ over_nodes used_pages setting parts nodes → resident ≡ over_nodes backed_pages setting parts nodes → rows ≡ rows_to setting parts nodes
-      → (let t : Totals = record { calls = count; live = s.count; live_bytes = s.bytes; used = used; resident = resident; rows = rows } in t ≡ totals_of (finished_in nodes input order))
-  totals_are {lines} {s} {count} {used} {resident} {rows} told stand count_is used_is resident_is rows_are =
-      let made : ℕ → ℕ → ℕ → ℕ → ℕ → List RowView → Totals =
-      λ n live bytes pages backed views. record { calls = n; live = live; live_bytes = bytes; used = pages; resident = backed; rows = views } in
-      let whole : List CallLine → List NodePart → Totals =
-      λ ls ps. made (length ls) (live_count ls) (live_bytes ls) (over_nodes used_pages setting ps nodes) (over_nodes backed_pages setting ps nodes) (rows_to setting ps nodes) in
-      ap (λ n. made n s.count s.bytes used resident rows) count_is
-      ∙ (ap (λ n. made (length lines) n s.bytes used resident rows) stand.count
-      ∙ (ap (λ n. made (length lines) (live_count lines) n used resident rows) stand.bytes
-      ∙ (ap (λ n. made (length lines) (live_count lines) (live_bytes lines) n resident rows) used_is
-      ∙ (ap (λ n. made (length lines) (live_count lines) (live_bytes lines) (over_nodes used_pages setting parts nodes) n rows) resident_is
-      ∙ (ap (made (length lines) (live_count lines) (live_bytes lines) (over_nodes used_pages setting parts nodes) (over_nodes backed_pages setting parts nodes)) rows_are
-      ∙ (ap (λ ls. whole ls parts) told
-      ∙ ap (λ (v : World NodePart (Beside NodeLocal)). whole (numa_calls v.locals order) v.parts) is))))))
+      → (let t : Totals = record { calls = count; live = s.count; live_bytes = s.bytes; used = used; resident = resident; rows = rows } in
+      t ≡ totals_of (finished_in nodes input order))
+  totals_are told stand count_is used_is resident_is rows_are =
+      rw (count_is, stand.count, stand.bytes, used_is, resident_is, rows_are, told, told_are, parts_are)
 
   -- the blocks of each node are among its live runs
   covered_to : (n : ℕ) → n ≤ nodes → sum_by (λ k. live_bytes (lines_at k h.lines)) (range_with_len 0 n) ≤ runs_to setting parts n * page_bytes
@@ -105,22 +92,22 @@ module _ {nodes : ℕ} {input : Input} {order : List ℕ} (h : HoldsAfter nodes 
   covered_to (suc n) few =
       let low : n < nodes = omega (arith, few) in
       let all = (h.at_nodes n low).holds in
-      let at : live_bytes (lines_at n h.lines) ≡ live_bytes (calls all.locals (order_at nodes input n order)) =
-      ap live_bytes (h.told_at n low ∙ ap (λ (v : World NodePart NodeLocal). calls v.locals (order_at nodes input n order)) all.is) in
-      let same : sum_by (λ (x : Run). x.pages) all.parts.heap.runs ≡ sum_by (λ (x : Run). x.pages) (heap_at setting parts n).runs =
-      ap (λ (x : Heap). sum_by (λ (x : Run). x.pages) x.runs) (heap_is setting parts n all.parts.heap (heap_there n low)) in
-      let next : suc n ≡ n + 1 = omega arith in
-      let bytes = ap (λ m. sum_by (λ k. live_bytes (lines_at k h.lines)) (range_with_len 0 m)) next ∙ sum_more (λ k. live_bytes (lines_at k h.lines)) n in
-      let runs = ap (runs_to setting parts) next ∙ sum_more (λ k. sum_by (λ (x : Run). x.pages) (heap_at setting parts k).runs) n in
-      omega (arith, covered_to n (omega (arith, few)), at, all.covered, same, bytes, runs)
+      let pages : Heap → ℕ = λ x. sum_by (λ (r : Run). r.pages) x.runs in
+      let at : live_bytes (lines_at n h.lines) ≡ live_bytes (calls all.locals (order_at nodes input n order)) = rw (h.told_at n low, all.is) in
+      let same = ap pages (heap_is setting parts n all.parts.heap (heap_there n low)) in
+      let bytes = sum_next (λ k. live_bytes (lines_at k h.lines)) n in
+      omega (arith, covered_to n (omega (arith, few)), at, all.covered, same, bytes, sum_next (λ k. pages (heap_at setting parts k)) n)
 
-  pub covered_is : {lines : List CallLine} {s : Standing} {used resident : ℕ} → lines ≡ numa_calls locals order → AreStanding lines s → used ≡ runs_to setting parts nodes
-      → used ≤ resident → s.bytes ≤ resident * page_bytes
+  pub covered_is : {lines : List CallLine} {s : Standing} {used resident : ℕ}
+      → lines ≡ numa_calls locals order → AreStanding lines s → used ≡ runs_to setting parts nodes → used ≤ resident → s.bytes ≤ resident * page_bytes
   covered_is told stand runs covers =
       omega (arith, stand.bytes, ap live_bytes (lines_are told), h.joined.bytes, covered_to nodes (omega arith), runs, covers)
 
 -- all that holds after an order whose picks move
-pub holds_of : {nodes : ℕ} {input : Input} → 0 < nodes → IsValidInput input → not_taken is_common input.asked.calls ≡ 0 → input.asked.config.events ≤ 40000000 → {order : List ℕ}
-    → moving (numa_rules nodes input) (start (numa_rules nodes input)) order ≡ order → length order ≤ input.asked.config.events → HoldsAfter nodes input order
-holds_of {nodes} {input} some valid taken bound {order} moves few =
-    (nodes_are_lawful nodes input some valid taken).holds order (order_is (numa_rules nodes input) order moves (omega (arith, few, bound)))
+pub holds_after : (m : NumaMachine) {order : List ℕ}
+    → (let rules = numa_rules m.nodes.count (input_under m.setting m.trace.value) in moving rules (start rules) order ≡ order)
+    → length order ≤ m.setting.config.events → HoldsAfter m.nodes.count (input_under m.setting m.trace.value) order
+holds_after m {order} moves few =
+    let input = input_under m.setting m.trace.value in
+    (nodes_are_lawful m.nodes.count input m.nodes.some m.valid m.taken).holds order
+    (order_is (numa_rules m.nodes.count input) order moves (omega (arith, few, m.few)))

@@ -1,11 +1,11 @@
 -- How many labels a node has: the greatest label plus one of its threads' scripts is that of the calls that act there.
-use Rattle.std.proofs.Common.{◌≡◌, ℕ, zero, suc, ◌+◌, ◌<◌, ◌≤◌, Bool, true, cond, eqb, List, [], ◌∷◌, ◌++◌, filter, fold, max, refl, sym, ap, ◌∙◌, subst, arith, inl, inr, eq-eqb}
+use Rattle.std.proofs.Common.{◌≡◌, ℕ, zero, suc, ◌<◌, ◌≤◌, Bool, true, cond, eqb, List, [], ◌∷◌, ◌++◌, filter, fold, max, refl, ap, ◌∙◌, arith}
 use Rattle.std.specs.List.{list_any}
-use Rattle.std.proofs.lemmas.Bool.{cases_Bool, cases_eq, ne_eqb, eqb-true, false≢true}
+use Rattle.std.proofs.lemmas.Bool.{cases_Bool, cases_eq, eqb-true, false≢true}
 use Rattle.std.proofs.Math.Seq.{append_snoc}
 use Rattle.trace_reader.specs.Valid.{IsAsked, IsCall}
 use Rattle.tc_model.specs.declared.calls.Call.{Call}
-use Rattle.tc_model.specs.declared.calls.Call.TheVariants.{Malloc, Free, Release, Drain, Resize}
+use Rattle.tc_model.specs.declared.calls.Call.TheVariants.{Malloc, Free}
 use Rattle.tc_model.specs.declared.calls.Planned.{Planned}
 use Rattle.tc_model.specs.declared.config.Config.{Config}
 use Rattle.tc_model.specs.Input.{Asked, ThreadCall, script_of, label_end, labels_of}
@@ -14,15 +14,17 @@ use Rattle.tc_model.specs.Blocks.{allocates}
 use Rattle.node_rules.specs.Nodes.{home, acts_at, node_of, asked_at}
 use Rattle.numa_heaps.specs.Opening.{end_at, labels_by}
 use Rattle.tc_units.specs.declared.units.Label.{Label}
-use Rattle.numa_heaps.proofs.Owners.{fold_more}
+use Rattle.std.proofs.lemmas.Bool.Decides.{nat_tests}
+use Rattle.numa_heaps.proofs.Ranges.{fold_next}
 
 -- a call that allocates a label
 pub made_of : (x : ℕ) (call : Call) → allocates x call ≡ true → (size : ℕ) × (call ≡ Malloc (record { 0 = x }) size)
 made_of x (Malloc label size) own = (size, ap (λ n. let l : Label = record { 0 = n } in Malloc l size) (eqb-true label.0 x own))
-made_of x (Free label) own = absurd (false≢true own)
-made_of x (Release pages) own = absurd (false≢true own)
-made_of x (Drain cpu) own = absurd (false≢true own)
-made_of x (Resize cpu class cap) own = absurd (false≢true own)
+made_of x other own = absurd (false≢true own)
+
+end_above : (x : ℕ) (call : Call) → allocates x call ≡ true → x < label_end call
+end_above x (Malloc label size) own = omega (arith, eqb-true label.0 x own)
+end_above x other own = absurd (false≢true own)
 
 -- The greatest of a list's numbers
 greatest_from : {X : Type 0} (f : X → ℕ) (a : ℕ) (xs : List X) → fold (λ m x. max m (f x)) a xs ≡ max a (fold (λ m x. max m (f x)) 0 xs)
@@ -37,21 +39,11 @@ greatest_next c cs = omega (arith, greatest_from (λ (d : ThreadCall). label_end
 
 pub any_below : (x : ℕ) (cs : List ThreadCall) → list_any (λ (c : ThreadCall). allocates x c.planned.call) cs ≡ true → x < greatest cs
 any_below x [] some = absurd (false≢true some)
-any_below x (c ∷ cs) some =
-    let next = greatest_next c cs in
-    elim (cases_Bool (allocates x c.planned.call)) [
-      | inl own ↦
-          let first : x < label_end c.planned.call = subst (λ (call : Call). x < label_end call) (sym (made_of x c.planned.call own).1) (omega arith) in
-          omega (arith, next, first)
-      | inr other ↦ omega (arith, next, any_below x cs (rw other at some))
-    ]
+any_below x (c ∷ cs) some = grind (arith, nat_tests, greatest_next c cs, any_below x cs, end_above x c.planned.call)
 
 few_in : (classes : ℕ) (config : Config) (earlier : List ThreadCall) (call : Call) → IsCall classes config earlier call → label_end call ≤ 1000000
 few_in classes config earlier (Malloc label size) is = omega (arith, is.0)
-few_in classes config earlier (Free label) is = omega arith
-few_in classes config earlier (Release pages) is = omega arith
-few_in classes config earlier (Drain cpu) is = omega arith
-few_in classes config earlier (Resize cpu class cap) is = omega arith
+few_in classes config earlier other is = omega arith
 
 pub few_kept : (classes : ℕ) (asked : Asked) → IsAsked classes asked → (p : ThreadCall → Bool) (earlier cs : List ThreadCall) → earlier ++ cs ≡ asked.calls
     → greatest (filter p cs) ≤ 1000000
@@ -59,10 +51,7 @@ few_kept classes asked read p earlier [] is = omega arith
 few_kept classes asked read p earlier (c ∷ cs) is =
     let rest = few_kept classes asked read p (earlier ++ c ∷ []) cs (append_snoc earlier c cs ∙ is) in
     let own = few_in classes asked.config earlier c.planned.call (read.calls earlier c cs is).call in
-    elim (cases_Bool (p c)) [
-      | inl passes ↦ rw passes (omega (arith, rest, own, greatest_next c (filter p cs)))
-      | inr fails ↦ rw fails rest
-    ]
+    grind (arith, nat_tests, rest, own, greatest_next c (filter p cs))
 
 -- How many labels are allocated at node k, by threads: what one call more adds, by the node of its thread
 module _ (nodes : ℕ) (config : Config) (k : ℕ) where
@@ -73,62 +62,37 @@ module _ (nodes : ℕ) (config : Config) (k : ℕ) where
   most n cs = labels_by nodes config (λ t. script_of t cs) k n
 
   most_next : (n : ℕ) (cs : List ThreadCall) → most (suc n) cs ≡ max (most n cs) (part n cs)
-  most_next n cs = let e : suc n ≡ n + 1 = omega arith in ap (λ m. most m cs) e ∙ fold_more (λ m t. max m (part t cs)) 0 n
+  most_next n cs = fold_next (λ m t. max m (part t cs)) 0 n
 
   abbrev own_end : ThreadCall → ℕ
   own_end c = cond (eqb (home nodes config c.thread.0) k) (label_end c.planned.call) 0
 
   part_mine : (c : ThreadCall) (cs : List ThreadCall) → part c.thread.0 (c ∷ cs) ≡ max (own_end c) (part c.thread.0 cs)
   part_mine c cs =
-      let mine = eq-eqb c.thread.0 c.thread.0 refl in
-      let script : script_of c.thread.0 (c ∷ cs) ≡ c.planned ∷ script_of c.thread.0 cs = rw mine refl in
       let end = greatest_from (λ (p : Planned). label_end p.call) (max 0 (label_end c.planned.call)) (script_of c.thread.0 cs) in
-      ap (end_at (home nodes config c.thread.0) k) script
-      ∙ elim (cases_Bool (eqb (home nodes config c.thread.0) k)) [
-        | inl here ↦ rw here (omega (arith, end))
-        | inr away ↦ rw away refl
-      ]
+      grind (arith, nat_tests, end)
 
   part_other : (t : ℕ) (c : ThreadCall) (cs : List ThreadCall) → (c.thread.0 ≡ t → ⊥) → part t (c ∷ cs) ≡ part t cs
-  part_other t c cs apart =
-      let e = ne_eqb c.thread.0 t apart in
-      ap (end_at (home nodes config t) k) (let same : script_of t (c ∷ cs) ≡ script_of t cs = rw e refl in same)
+  part_other t c cs apart = grind (arith, nat_tests)
 
   most_before : (n : ℕ) (c : ThreadCall) (cs : List ThreadCall) → n ≤ c.thread.0 → most n (c ∷ cs) ≡ most n cs
   most_before zero c cs low = refl
-  most_before (suc n) c cs low =
-      let rest = most_before n c cs (omega (arith, low)) in
-      let last = part_other n c cs (λ is. omega (arith, is, low)) in
-      omega (arith, most_next n (c ∷ cs), most_next n cs, rest, last)
+  most_before (suc n) c cs low = grind (arith, most_next n (c ∷ cs), most_next n cs, most_before n c cs, part_other n c cs)
 
   most_behind : (n : ℕ) (c : ThreadCall) (cs : List ThreadCall) → c.thread.0 < n → most n (c ∷ cs) ≡ max (own_end c) (most n cs)
   most_behind zero c cs high = absurd (omega (arith, high))
   most_behind (suc n) c cs high =
-      elim (cases_eq c.thread.0 n) [
-        | inl same ↦
-            let rest = most_before n c cs (omega (arith, same)) in
-            let last = subst (λ t. part t (c ∷ cs) ≡ max (own_end c) (part t cs)) same (part_mine c cs) in
-            omega (arith, most_next n (c ∷ cs), most_next n cs, rest, last)
-        | inr apart ↦
-            let rest = most_behind n c cs (grind (arith, high, apart)) in
-            let last = part_other n c cs apart in
-            omega (arith, most_next n (c ∷ cs), most_next n cs, rest, last)
-      ]
+      grind (arith, cases_eq c.thread.0 n, most_next n (c ∷ cs), most_next n cs, most_before n c cs, part_mine c cs, part_other n c cs, most_behind n c cs)
 
   most_none : (n : ℕ) → most n [] ≡ 0
   most_none zero = refl
-  most_none (suc n) =
-      let none : part n [] ≡ 0 = elim (cases_Bool (eqb (home nodes config n) k)) [ inl here ↦ rw here refl | inr away ↦ rw away refl ] in
-      omega (arith, most_next n [], most_none n, none)
+  most_none (suc n) = grind (arith, nat_tests, most_next n [], most_none n)
 
 -- a call counts at the node of its thread exactly where it counts at its own: only an allocation has labels
 same_end : (nodes : ℕ) (asked : Asked) (k t : ℕ) (call : Call)
     → cond (eqb (home nodes asked.config t) k) (label_end call) 0 ≡ cond (eqb (acts_at nodes asked t call) k) (label_end call) 0
-same_end nodes asked k t (Malloc label size) = refl
 same_end nodes asked k t (Free label) = grind (arith, cases_Bool)
-same_end nodes asked k t (Release pages) = refl
-same_end nodes asked k t (Drain cpu) = refl
-same_end nodes asked k t (Resize cpu class cap) = refl
+same_end nodes asked k t other = refl
 
 most_kept : (nodes : ℕ) (asked : Asked) (k n : ℕ) (cs : List ThreadCall) → AreBelow n cs
     → most nodes asked.config k n cs ≡ greatest (filter (λ (c : ThreadCall). eqb (node_of nodes asked c) k) cs)
@@ -137,11 +101,7 @@ most_kept nodes asked k n (c ∷ cs) below =
     let rest = most_kept nodes asked k n cs below.1 in
     let here = most_behind nodes asked.config k n c cs below.0 in
     let own = same_end nodes asked k c.thread.0 c.planned.call in
-    let At : ThreadCall → Bool = λ d. eqb (node_of nodes asked d) k in
-    elim (cases_Bool (eqb (node_of nodes asked c) k)) [
-      | inl is ↦ rw is (omega (arith, rest, here, rw is at own, greatest_next c (filter At cs)))
-      | inr isnt ↦ rw isnt (omega (arith, rest, here, rw isnt at own))
-    ]
+    grind (arith, nat_tests, rest, here, own, greatest_next c (filter (λ (d : ThreadCall). eqb (node_of nodes asked d) k) cs))
 
 pub labels_are : (nodes classes : ℕ) (asked : Asked) → IsAsked classes asked → (k : ℕ)
     → labels_by nodes asked.config (λ t. script_of t asked.calls) k asked.config.threads ≡ labels_of (asked_at nodes asked k)

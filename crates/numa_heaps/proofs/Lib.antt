@@ -1,4 +1,5 @@
 pub mod Acting
+pub mod Ranges
 pub mod Owners
 pub mod LabelCounts
 pub mod Opened

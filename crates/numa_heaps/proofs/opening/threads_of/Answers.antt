@@ -1,4 +1,4 @@
-use Rattle.std.proofs.Common.{◌≡◌, ℕ, List, [], ◌∷◌, ◌++◌, ap, sym, ◌∙◌, arith}
+use Rattle.std.proofs.Common.{ℕ, arith}
 use Rattle.std.proofs.lemmas.List.FromFn.{map-range_with_len_more}
 use Rattle.tc_machine.specs.Inputs.{script_at}
 use Rattle.node_rules.specs.Beside.{Beside}
@@ -12,10 +12,6 @@ loop-thread-preserved c =
     let t : ℕ = c.loop-thread.thread in
     let script = script_at c.args.scripts.now in
     let at : ℕ → Beside NodeLocal = λ u. thread_by c.args.setting.now c.args.nodes.count u c.args.owners.now (script u) in
-    let read : c.as_slice-calls.result.now ≡ script t =
-    c.as_slice-calls.ensures ∙ script_there c.args.scripts.now t c.index-scripts-thread.result c.loop-thread-test.true in
-    let made : c.in_ok-thread_of.field-0 ≡ at t = c.in_ok-thread_of.ensures ∙ ap (thread_by c.args.setting.now c.args.nodes.count t c.args.owners.now) read in
-    c.in_ok-push.ensures.items
-    ∙ (ap (λ (l : Beside NodeLocal). c.loop-thread.locals.items ++ l ∷ []) made
-    ∙ (ap (λ (ls : List (Beside NodeLocal)). ls ++ at t ∷ []) c.loop-thread.invariant
-    ∙ sym (map-range_with_len_more at 0 t t (omega arith))))
+    let read = script_there c.args.scripts.now t c.index-scripts-thread.result c.loop-thread-test.true in
+    let more = map-range_with_len_more at 0 t t (omega arith) in
+    rw (c.in_ok-push.ensures.items, c.in_ok-thread_of.ensures, c.as_slice-calls.ensures, read, c.loop-thread.invariant, more)
