@@ -1,6 +1,7 @@
 -- One pick more of memory nodes side by side: the world of its node goes on by it, those of the others stay, and what it decided is
 -- told.
-use Rattle.std.proofs.Common.{◌≡◌, ℕ, ◌+◌, ◌*◌, ◌<◌, ◌≤◌, ◌==◌, false, cond, eqb, List, [], ◌∷◌, ◌++◌, length, map, fold, Option, Some, refl, sym, ap, ◌∙◌, subst, arith, inl, inr, All}
+use Rattle.std.proofs.Common.{◌≡◌, ℕ, ◌+◌, ◌*◌, ◌<◌, ◌≤◌, ◌==◌, false, cond, eqb, List, [], ◌∷◌, ◌++◌, length}
+use Rattle.std.proofs.Common.{map, fold, Option, Some, refl, sym, ap, ◌∙◌, subst, arith, inl, inr, All}
 use Rattle.std.specs.Prelude.{slice_get, slice_set, option_map}
 use Rattle.std.specs.Option.{option_flatten, option_map_or}
 use Rattle.std.specs.List.{range_with_len}
@@ -53,7 +54,8 @@ module _ {P L : Type 0} (r : Rules P (Beside L)) (k : ℕ) where
   picks_less w (u ∷ us) = grind (arith, picks_less (pick r w u) us)
 
 -- what was decided at a node, as it is told
-told_there : (huge k act t : ℕ) (ds : List Decided) → map (told t) (map (decided_at huge k act) ds) ≡ map (told_line huge) (map (λ d. record { node = k; line = told t d }) ds)
+told_there : (huge k act t : ℕ) (ds : List Decided)
+    → map (told t) (map (decided_at huge k act) ds) ≡ map (told_line huge) (map (λ d. record { node = k; line = told t d }) ds)
 told_there huge k act t [] = refl
 told_there huge k act t (d ∷ ds) = ap (λ (xs : List CallLine). told_line huge (record { node = k; line = told t d }) ∷ xs) (told_there huge k act t ds)
 
@@ -85,7 +87,8 @@ other_told : (t u : ℕ) (ds : List Decided) → (t ≡ u → ⊥) → lines_by 
 other_told t u [] apart = refl
 other_told t u (d ∷ ds) apart = rw (ne_eqb t u apart) (other_told t u ds apart)
 
-all_new : (Q : NodeLine → Type 0) (k t : ℕ) (ds : List Decided) → length ds ≤ 1 → ((d : Decided) → ds ≡ d ∷ [] → Q (record { node = k; line = told t d })) → All Q (new_lines k t ds)
+all_new : (Q : NodeLine → Type 0) (k t : ℕ) (ds : List Decided)
+    → length ds ≤ 1 → ((d : Decided) → ds ≡ d ∷ [] → Q (record { node = k; line = told t d })) → All Q (new_lines k t ds)
 all_new Q k t [] few each = λ i d within. absurd (omega (arith, within))
 all_new Q k t (d ∷ []) few each = All-cons Q (record { node = k; line = told t d }) [] (each d refl) (All-nil Q)
 all_new Q k t (d ∷ e ∷ more) few each = absurd (omega (arith, few))
@@ -97,7 +100,8 @@ module _ (nodes : ℕ) (input : Input) (valid : IsValidInput input) (taken : not
   abbrev huge : ℕ
   huge = input.asked.config.huge
 
-  abbrev pub law : (k : ℕ) → allocator.AreLawful (no_caches input.rows) about_none (asked_at nodes input.asked k) fits (allocator.HoldsAfter (no_caches input.rows) about_none Holds (asked_at nodes input.asked k))
+  abbrev pub law : (k : ℕ) → (let asked = asked_at nodes input.asked k in let front = no_caches input.rows in
+      allocator.AreLawful front about_none asked fits (allocator.HoldsAfter front about_none Holds asked))
   law k = lawful_in (input_at nodes input k) (valid_at nodes input valid k) (taken_at nodes input is_common k taken)
 
   -- node k's world, after an order
@@ -113,7 +117,8 @@ module _ (nodes : ℕ) (input : Input) (valid : IsValidInput input) (taken : not
     pub threads : (t : ℕ) (l : Beside NodeLocal) → slice_get (run numa order).locals t ≡ Some l → IsSeen nodes input order t l
     pub of_picks : AreOfPicks (λ (l : Beside NodeLocal). l.answers) (λ (d : Decided). d.act) (run numa order).locals order
     pub rising : (t : ℕ) (l : Beside NodeLocal) → slice_get (run numa order).locals t ≡ Some l → AreRising (λ (d : Decided). d.act) 0 l.answers
-    pub tells : (t : ℕ) → lines_by t (numa_calls (run numa order).locals order) ≡ map (told t) (option_map_or (λ (l : Beside NodeLocal). l.answers) (slice_get (run numa order).locals t) [])
+    pub tells : (t : ℕ) → lines_by t (numa_calls (run numa order).locals order)
+        ≡ map (told t) (option_map_or (λ (l : Beside NodeLocal). l.answers) (slice_get (run numa order).locals t) [])
     pub lines : List NodeLine
     pub told : numa_calls (run numa order).locals order ≡ map (told_line huge) lines
     pub told_at : (k : ℕ) → k < nodes → lines_at k lines ≡ allocator.calls (world_at nodes input k order).locals (order_at nodes input k order)
@@ -158,10 +163,13 @@ module _ (nodes : ℕ) (input : Input) (valid : IsValidInput input) (taken : not
     part = sym (here.of.parts m.place.0 in_width) ∙ m.there
 
     pub fit : Fits input.rows fits m.p m.x
-    fit = let same : found.part ≡ m.p = let e : Some found.part ≡ Some m.p = sym found.there ∙ part in cc in subst (λ p. Fits input.rows fits p m.x) same found.fit
+    fit =
+        let same : found.part ≡ m.p = let e : Some found.part ≡ Some m.p = sym found.there ∙ part in cc in
+        subst (λ p. Fits input.rows fits p m.x) same found.fit
 
     -- the node's own pick
-    picked : IsPick (no_caches input.rows) about_none (asked_at nodes input.asked k) v.locals (order_at nodes input k order) t m.x ((rules_at nodes input 0).after m.p m.x).1
+    picked : IsPick (no_caches input.rows) about_none (asked_at nodes input.asked k) v.locals (order_at nodes input k order) t m.x
+        ((rules_at nodes input 0).after m.p m.x).1
     picked = (law k).picks (order_at nodes input k order) t m.x m.place m.p here.moves local m.want part m.goes
 
     -- what the act leaves at the node, and of the thread
@@ -206,15 +214,12 @@ module _ (nodes : ℕ) (input : Input) (valid : IsValidInput input) (taken : not
     at_other j in_nodes other =
         let a = h.at_nodes j in_nodes in
         let stays : world_at nodes input j next ≡ world_at nodes input j order = ap (run (rules_at nodes input j)) (order_there j other) in
-        let of = other_world (width_of input) k w t m.place.0 m.l gone m.x act.1 m.p act.0 m.at m.here m.there in_width refl j (world_at nodes input j order) other a.of in
+        let one = world_at nodes input j order in
+        let of = other_world (width_of input) k w t m.place.0 m.l gone m.x act.1 m.p act.0 m.at m.here m.there in_width refl j one other a.of in
         grind (arith, moves, order_there j other, goes)
 
     each_at : (j : ℕ) → j < nodes → IsAt next j
-    each_at j in_nodes =
-        elim (cases_eq j k) [
-          | inl same ↦ subst (IsAt next) (sym same) at_here
-          | inr other ↦ at_other j in_nodes other
-        ]
+    each_at j in_nodes = elim (cases_eq j k) [ inl same ↦ subst (IsAt next) (sym same) at_here | inr other ↦ at_other j in_nodes other ]
 
     -- the thread
     among : (o : List ℕ) (x : NodeLocal) → IsOrder (rules_at nodes input k) o → slice_get (run (rules_at nodes input k) o).locals t ≡ Some x
@@ -265,7 +270,9 @@ module _ (nodes : ℕ) (input : Input) (valid : IsValidInput input) (taken : not
     lines_next u = ap (lines_by u) calls_next ∙ filter-append (λ (c : CallLine). eqb c.thread.0 u) (numa_calls w.locals order) (map (told t) says)
 
     abbrev Tells : ℕ → Type 0
-    Tells u = lines_by u (numa_calls (slice_set w.locals t gone) next) ≡ map (told u) (option_map_or (λ (l : Beside NodeLocal). l.answers) (slice_get (slice_set w.locals t gone) u) [])
+    Tells u =
+        lines_by u (numa_calls (slice_set w.locals t gone) next)
+        ≡ map (told u) (option_map_or (λ (l : Beside NodeLocal). l.answers) (slice_get (slice_set w.locals t gone) u) [])
 
     tells_this : Tells t
     tells_this = grind (arith, set_here, lines_next, own_told, map-append, pushed)
@@ -286,11 +293,7 @@ module _ (nodes : ℕ) (input : Input) (valid : IsValidInput input) (taken : not
     told_other j in_nodes other = grind (arith, lines_both, lines_other, append-nil, order_there)
 
     each_told : (j : ℕ) → j < nodes → lines_at j next_lines ≡ allocator.calls (world_at nodes input j next).locals (order_at nodes input j next)
-    each_told j in_nodes =
-        elim (cases_eq j k) [
-          | inl same ↦ subst (λ n. lines_at n next_lines ≡ allocator.calls (world_at nodes input n next).locals (order_at nodes input n next)) (sym same) told_here
-          | inr other ↦ told_other j in_nodes other
-        ]
+    each_told j in_nodes = elim (cases_eq j k) [ inl same ↦ rw same told_here | inr other ↦ told_other j in_nodes other ]
 
     -- where that is
     there_is : (d : Decided) → picked.new ≡ d ∷ [] → IsCallAt nodes input t k d.call
@@ -298,16 +301,18 @@ module _ (nodes : ℕ) (input : Input) (valid : IsValidInput input) (taken : not
 
     home_next : All (λ (x : NodeLine). x.node ≡ acts_at nodes input.asked x.line.thread.0 x.line.call) next_lines
     home_next =
-        All-append (λ (x : NodeLine). x.node ≡ acts_at nodes input.asked x.line.thread.0 x.line.call) h.lines (new_lines k t picked.new) h.at_home
-        (all_new (λ (x : NodeLine). x.node ≡ acts_at nodes input.asked x.line.thread.0 x.line.call) k t picked.new picked.few (λ d one. acts_there nodes input t k d.call (there_is d one)))
+        let AtHome : NodeLine → Type 0 = λ x. x.node ≡ acts_at nodes input.asked x.line.thread.0 x.line.call in
+        All-append AtHome h.lines (new_lines k t picked.new) h.at_home
+        (all_new AtHome k t picked.new picked.few (λ d one. acts_there nodes input t k d.call (there_is d one)))
 
     owned_next : AreOfNodes nodes (owner nodes input valid) next_lines
     owned_next =
+        let Owned : NodeLine → Type 0 = λ x. (label : ℕ) → IsAbout label x → x.node ≡ owner nodes input valid label in
         record {
           there = All-append (λ (x : NodeLine). x.node < nodes) h.lines (new_lines k t picked.new) h.owned.there
               (all_new (λ (x : NodeLine). x.node < nodes) k t picked.new picked.few (λ d one. low));
-          own = All-append (λ (x : NodeLine). (label : ℕ) → IsAbout label x → x.node ≡ owner nodes input valid label) h.lines (new_lines k t picked.new) h.owned.own
-              (all_new (λ (x : NodeLine). (label : ℕ) → IsAbout label x → x.node ≡ owner nodes input valid label) k t picked.new picked.few
+          own = All-append Owned h.lines (new_lines k t picked.new) h.owned.own
+              (all_new Owned k t picked.new picked.few
               (λ d one. label_there nodes input valid t k d.call (there_is d one) (record { node = k; line = told t d }) refl refl));
         }
 
@@ -327,7 +332,8 @@ module _ (nodes : ℕ) (input : Input) (valid : IsValidInput input) (taken : not
           of_picks = by (λ ls. AreOfPicks (λ (l : Beside NodeLocal). l.answers) (λ (d : Decided). d.act) ls next)
               (picks-step (λ (l : Beside NodeLocal). l.answers) (λ (d : Decided). d.act) told w.locals order t m.l gone says h.of_picks m.at pushed at_pick);
           rising = by (λ ls. (u : ℕ) (l : Beside NodeLocal) → slice_get ls u ≡ Some l → AreRising (λ (d : Decided). d.act) 0 l.answers) each_rises;
-          tells = by (λ ls. (u : ℕ) → lines_by u (numa_calls ls next) ≡ map (told u) (option_map_or (λ (l : Beside NodeLocal). l.answers) (slice_get ls u) [])) each_tells;
+          tells = by (λ ls. (u : ℕ) → lines_by u (numa_calls ls next)
+              ≡ map (told u) (option_map_or (λ (l : Beside NodeLocal). l.answers) (slice_get ls u) [])) each_tells;
           lines = next_lines;
           told = by (λ ls. numa_calls ls next ≡ map (told_line huge) next_lines) told_next;
           told_at = each_told;

@@ -158,7 +158,8 @@ module _
     lies : Stands nodes huge round earlier → (addr len : ℕ) → (told_line huge x).answer ≡ Block (record { 0 = addr }) len → IsInNode huge x.node addr len
     lies stand addr len told = grind (arith, fits, there, allowed)
 
-    freed_lies : Stands nodes huge round earlier → (addr : ℕ) → (told_line huge x).answer ≡ Freed (record { 0 = addr }) → (len : ℕ) × (0 < len) × IsInNode huge x.node addr len
+    freed_lies : Stands nodes huge round earlier → (addr : ℕ) → (told_line huge x).answer ≡ Freed (record { 0 = addr })
+        → (len : ℕ) × (0 < len) × IsInNode huge x.node addr len
     freed_lies stand addr told =
         let w = subst (FitsIn (start huge) x.node) told (fits nodes huge round earlier stand x.node there x.line.call x.line.answer allowed) in
         (w.0, w.1.some, record { from = w.1.from; to = w.1.to })

@@ -33,7 +33,9 @@ module _ (huge : ℕ) (few : huge ≤ 4096) (round : ℕ → ℕ) where
   low_by : (cs : List CallLine) (c : CallLine) (ds : List CallLine) (answer : Answer) → IsBlockRun huge round (cs ++ c ∷ ds) → c.answer ≡ answer → IsLow answer
   low_by cs c ds (Block addr len) run is = grind (arith, joined (cs ++ c ∷ ds) run, alone_both cs c ds)
   low_by cs c ds (Freed addr) run is =
-      let lies = (joined (cs ++ c ∷ ds) run).freed (alone cs) (record { node = 0; line = c }) (alone ds) (addr.0 + bytes_before huge 0) (alone_both cs c ds) (ap (shifted (bytes_before huge 0)) is) in
+      let before : ℕ = bytes_before huge 0 in
+      let freed = (joined (cs ++ c ∷ ds) run).freed (alone cs) (record { node = 0; line = c }) (alone ds) in
+      let lies = freed (addr.0 + before) (alone_both cs c ds) (ap (shifted before) is) in
       omega (arith, lies.2.to, few)
   low_by cs c ds NoBlock run is = tt
   low_by cs c ds FreedNull run is = tt
@@ -45,7 +47,9 @@ module _ (huge : ℕ) (few : huge ≤ 4096) (round : ℕ → ℕ) where
   low_by cs c ds (OverStatic most) run is = tt
 
   -- what is told last
-  pub low_last : (cs : List CallLine) (t : ℕ) (ds : List Decided) → length ds ≤ 1 → IsBlockRun huge round (cs ++ map (told t) ds) → All (λ (d : Decided). IsLow d.answer) ds
+  pub low_last : (cs : List CallLine) (t : ℕ) (ds : List Decided) → length ds ≤ 1 → IsBlockRun huge round (cs ++ map (told t) ds)
+      → All (λ (d : Decided). IsLow d.answer) ds
   low_last cs t [] few run = All-nil (λ (d : Decided). IsLow d.answer)
-  low_last cs t (d ∷ []) few run = All-cons (λ (d : Decided). IsLow d.answer) d [] (low_by cs (told t d) [] d.answer run refl) (All-nil (λ (d : Decided). IsLow d.answer))
+  low_last cs t (d ∷ []) few run =
+      All-cons (λ (d : Decided). IsLow d.answer) d [] (low_by cs (told t d) [] d.answer run refl) (All-nil (λ (d : Decided). IsLow d.answer))
   low_last cs t (d ∷ e ∷ more) few run = absurd (omega (arith, few))

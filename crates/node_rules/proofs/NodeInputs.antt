@@ -71,6 +71,8 @@ module _ (nodes : ℕ) (input : Input) (valid : IsValidInput input) where
   pub valid_at : (k : ℕ) → IsValidInput (input_at nodes input k)
   valid_at k = grind (arith, filter_split (At k) calls, in_order k)
 
-pub taken_at : (nodes : ℕ) (input : Input) (takes : Call → Bool) (k : ℕ) → not_taken takes input.asked.calls ≡ 0 → not_taken takes (asked_at nodes input.asked k).calls ≡ 0
+pub taken_at : (nodes : ℕ) (input : Input) (takes : Call → Bool) (k : ℕ) → not_taken takes input.asked.calls ≡ 0
+    → not_taken takes (asked_at nodes input.asked k).calls ≡ 0
 taken_at nodes input takes k none =
-    omega (arith, none, kept_less (λ (c : ThreadCall). cond (takes c.planned.call) 0 1) (λ (c : ThreadCall). eqb (node_of nodes input.asked c) k) input.asked.calls)
+    let one : ThreadCall → ℕ = λ c. cond (takes c.planned.call) 0 1 in
+    omega (arith, none, kept_less one (λ (c : ThreadCall). eqb (node_of nodes input.asked c) k) input.asked.calls)

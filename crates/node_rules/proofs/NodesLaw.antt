@@ -1,5 +1,6 @@
 -- The law of memory nodes: all that holds between two picks, that each pick fits, that the earliest call moves, and that scripts end.
-use Rattle.std.proofs.Common.{◌≡◌, ℕ, zero, suc, ◌+◌, ◌*◌, ◌<◌, ◌≤◌, false, eqb, List, [], ◌∷◌, ◌++◌, length, map, take, drop, filter, get_or, Option, Some, None, IsSomeAnd, option_and_then, refl, sym, ap, ◌∙◌, subst, arith, inl, inr, All}
+use Rattle.std.proofs.Common.{◌≡◌, ℕ, zero, suc, ◌+◌, ◌*◌, ◌<◌, ◌≤◌, false, eqb, List, [], ◌∷◌, ◌++◌, length}
+use Rattle.std.proofs.Common.{map, take, drop, filter, get_or, Option, Some, None, IsSomeAnd, option_and_then, refl, sym, ap, ◌∙◌, subst, arith, inl, inr, All}
 use Rattle.std.specs.Prelude.{slice_get, option_map, count_by}
 use Rattle.std.specs.Option.{option_flatten, option_map_or}
 use Rattle.std.specs.List.{range_with_len}
@@ -116,9 +117,11 @@ module _ (nodes : ℕ) (input : Input) (valid : IsValidInput input) (taken : not
   none_told t None at = refl
   none_told t (Some l) at = ap (λ (m : Beside NodeLocal). map (told t) m.answers) (is_number (first_thread nodes input) threads t l at).1
 
-  none_below : (t : ℕ) (o : Option (Beside NodeLocal)) → slice_get first t ≡ o → AreBelow (λ (d : Decided). d.act) 0 (option_map_or (λ (l : Beside NodeLocal). l.answers) o [])
+  none_below : (t : ℕ) (o : Option (Beside NodeLocal)) → slice_get first t ≡ o
+      → AreBelow (λ (d : Decided). d.act) 0 (option_map_or (λ (l : Beside NodeLocal). l.answers) o [])
   none_below t None at = tt
-  none_below t (Some l) at = subst (λ (m : Beside NodeLocal). AreBelow (λ (d : Decided). d.act) 0 m.answers) (is_number (first_thread nodes input) threads t l at).1 tt
+  none_below t (Some l) at =
+      subst (λ (m : Beside NodeLocal). AreBelow (λ (d : Decided). d.act) 0 m.answers) (is_number (first_thread nodes input) threads t l at).1 tt
 
   started : Run []
   started = grind (
@@ -161,8 +164,8 @@ module _ (nodes : ℕ) (input : Input) (valid : IsValidInput input) (taken : not
     want : one.want x ≡ Some place
     is : part.0 ≡ node * width + place.0
 
-  want_place : (l : Beside NodeLocal) (part : PartNo) (k : ℕ) (x : NodeLocal) (o : Option PartNo) → node_now l ≡ Some k → slice_get l.here k ≡ Some x → one.want x ≡ o
-      → option_map (part_at one answers width huge k) o ≡ Some part → IsWant l part
+  want_place : (l : Beside NodeLocal) (part : PartNo) (k : ℕ) (x : NodeLocal) (o : Option PartNo)
+      → node_now l ≡ Some k → slice_get l.here k ≡ Some x → one.want x ≡ o → option_map (part_at one answers width huge k) o ≡ Some part → IsWant l part
   want_place l part k x o now here want is = grind (arith)
 
   want_here : (l : Beside NodeLocal) (part : PartNo) (k : ℕ) (o : Option NodeLocal) → node_now l ≡ Some k → slice_get l.here k ≡ o
@@ -175,8 +178,8 @@ module _ (nodes : ℕ) (input : Input) (valid : IsValidInput input) (taken : not
   want_is l part (Some k) now is = want_here l part k (slice_get l.here k) now refl is
 
   -- an act of a node ends at most one call and decides at most one
-  one_act : (asked : Asked) → asked.config.huge ≤ 4096 → (locals : List NodeLocal) (order : List ℕ) (t : ℕ) (x new : NodeLocal) → allocator.IsPick (no_caches input.rows) about_none asked locals order t x new
-      → IsOneAct x new
+  one_act : (asked : Asked) → asked.config.huge ≤ 4096 → (locals : List NodeLocal) (order : List ℕ) (t : ℕ) (x new : NodeLocal)
+      → allocator.IsPick (no_caches input.rows) about_none asked locals order t x new → IsOneAct x new
   one_act asked low locals order t x new pick =
       let more = length-append x.answers pick.new in
       let grown = ap length pick.answers in
@@ -186,13 +189,15 @@ module _ (nodes : ℕ) (input : Input) (valid : IsValidInput input) (taken : not
       ]
       in
       let rest : drop (length x.answers) new.answers ≡ pick.new = ap (drop (length x.answers)) pick.answers ∙ drop-append_seam x.answers pick.new in
+      let round = length_of input.rows in
+      let run = subst (IsBlockRun asked.config.huge round) pick.told pick.blocks in
       record {
         kept = omega (arith, more, grown);
         few = omega (arith, more, grown, pick.few);
         rises = ended.0;
         next = ended.1;
         low = subst (λ (ds : List Decided). All (λ (d : Decided). IsLow d.answer) ds) (sym rest)
-            (low_last asked.config.huge low (length_of input.rows) (allocator.calls locals order) t pick.new pick.few (subst (IsBlockRun asked.config.huge (length_of input.rows)) pick.told pick.blocks));
+            (low_last asked.config.huge low round (allocator.calls locals order) t pick.new pick.few run);
       }
 
   sound : IsSound numa (FitsThread input.rows)
@@ -218,7 +223,8 @@ module _ (nodes : ℕ) (input : Input) (valid : IsValidInput input) (taken : not
           goes = λ x is goes.
               (let same : w.x ≡ x = let e : Some w.x ≡ Some x = sym now ∙ is in cc in
               subst (λ (y : NodeLocal). IsOneAct y (after (no_caches input.rows) about_none found.part y).1) same
-              (one_act (asked_at nodes input.asked w.node) valid.limits.few v.locals (order_at nodes input w.node order) t w.x (after (no_caches input.rows) about_none found.part w.x).1
+              (one_act (asked_at nodes input.asked w.node) valid.limits.few v.locals (order_at nodes input w.node order) t w.x
+              (after (no_caches input.rows) about_none found.part w.x).1
               ((law nodes input valid taken some w.node).picks (order_at nodes input w.node order) t w.x w.place found.part a.moves local w.want found.there
               (subst (λ (y : NodeLocal). waits found.part y ≡ false) (sym same) goes))));
         };
@@ -269,7 +275,8 @@ module _ (nodes : ℕ) (input : Input) (valid : IsValidInput input) (taken : not
     ended : own.0.ended ≡ picks_of t (map thread_of before)
     ended = omega (arith, turn.ended t, turn.next, ap (λ o. option_map_or numa.done o 0) own.1)
 
-    route : (u : ℕ) → route_of nodes input.asked u ≡ map (node_of nodes input.asked) (filter (λ (c : ThreadCall). eqb c.thread.0 u) (before ++ turn.c ∷ turn.behind))
+    route : (u : ℕ) → route_of nodes input.asked u
+        ≡ map (node_of nodes input.asked) (filter (λ (c : ThreadCall). eqb c.thread.0 u) (before ++ turn.c ∷ turn.behind))
     route u = ap (λ (cs : List ThreadCall). map (node_of nodes input.asked) (filter (λ (c : ThreadCall). eqb c.thread.0 u) cs)) (sym turn.is)
 
     now : node_now own.0 ≡ Some k
@@ -291,12 +298,14 @@ module _ (nodes : ℕ) (input : Input) (valid : IsValidInput input) (taken : not
         let s = (h.threads u l at).thread in
         let x = there_is l.here k (omega (arith, low, s.here)) in
         let local : slice_get v.locals u ≡ Some x.0 = sym (a.of.locals u l at) ∙ x.1 in
-        ap (λ o. option_map_or (rules_at nodes input k).done o 0) local ∙ (s.ended k x.0 x.1 ∙ ap (λ (r : List ℕ). count_by (λ j. eqb j k) (take l.ended r)) s.route)
+        ap (λ o. option_map_or (rules_at nodes input k).done o 0) local
+        ∙ (s.ended k x.0 x.1 ∙ ap (λ (r : List ℕ). count_by (λ j. eqb j k) (take l.ended r)) s.route)
 
     kept_done : (u : ℕ) (o : Option (Beside NodeLocal)) → slice_get w.locals u ≡ o → picks_of u (map thread_of kept) ≤ done_in (rules_at nodes input k) v u
     kept_done u None at = grind (arith, kept_is u)
     kept_done u (Some l) at =
-        omega (arith, kept_is u, done_here u l at, count_less k (picks_of u (map thread_of before)) l.ended (route_of nodes input.asked u) (omega (arith, turn.ended u, ap (λ o. option_map_or numa.done o 0) at)))
+        let less = count_less k (picks_of u (map thread_of before)) l.ended (route_of nodes input.asked u) in
+        omega (arith, kept_is u, done_here u l at, less, turn.ended u, ap (λ o. option_map_or numa.done o 0) at)
 
     own_done : done_in (rules_at nodes input k) v t ≤ picks_of t (map thread_of kept)
     own_done = omega (arith, kept_is t, done_here t own.0 own.1, ap (λ n. count_by (λ j. eqb j k) (take n (route_of nodes input.asked t))) ended)
@@ -344,7 +353,8 @@ module _ (nodes : ℕ) (input : Input) (valid : IsValidInput input) (taken : not
       let at : slice_get w.locals t ≡ Some l = slice_get-get_or w.locals t d within in
       let s = (h.threads t l at).thread in
       let all = turns_none (done_in numa w) [] (turns input.asked) next (λ u. omega arith) t in
-      let past : node_now l ≡ None = slice_get_past l.route l.ended (omega (arith, all, route_length t, ap length s.route, ap (λ o. option_map_or numa.done o 0) at)) in
+      let ended = ap (λ o. option_map_or numa.done o 0) at in
+      let past : node_now l ≡ None = slice_get_past l.route l.ended (omega (arith, all, route_length t, ap length s.route, ended)) in
       ap (want_by one answers width huge l) past
 
   script_length : (t : ℕ) → length (calls_in input.asked t) ≡ length (route_of nodes input.asked t)
@@ -354,7 +364,8 @@ module _ (nodes : ℕ) (input : Input) (valid : IsValidInput input) (taken : not
   past_calls t n none = grind (arith, past_end, map_none, length-map)
 
   -- a thread's call acts at a node that is there
-  node_low : (order : List ℕ) (h : Run order) (t : ℕ) (l : Beside NodeLocal) → slice_get (run numa order).locals t ≡ Some l → (k : ℕ) → node_now l ≡ Some k → k < nodes
+  node_low : (order : List ℕ) (h : Run order) (t : ℕ) (l : Beside NodeLocal) → slice_get (run numa order).locals t ≡ Some l
+      → (k : ℕ) → node_now l ≡ Some k → k < nodes
   node_low order h t l at k now =
       grind (arith, h.threads t l, map_some (node_of nodes input.asked), slice_get-map (node_of nodes input.asked), acts_low nodes input)
 
@@ -372,11 +383,13 @@ module _ (nodes : ℕ) (input : Input) (valid : IsValidInput input) (taken : not
       let low : k < nodes = node_low order h t l at k now in
       let x = there_is l.here k (omega (arith, low, s.here)) in
       let a = h.at_nodes k low in
-      let none_x : one.want x.0 ≡ None = map_none (part_at one answers width huge k) (one.want x.0) (sym (ap (option_and_then (λ y. option_map (part_at one answers width huge k) (one.want y))) x.1) ∙ none) in
+      let place = part_at one answers width huge k in
+      let none_x : one.want x.0 ≡ None = map_none place (one.want x.0) (sym (ap (option_and_then (λ y. option_map place (one.want y))) x.1) ∙ none) in
       let holds = (law nodes input valid taken some k).holds (order_at nodes input k order) a.moves in
       let local : slice_get holds.locals t ≡ Some x.0 =
       ap (λ (z : World NodePart NodeLocal). slice_get z.locals t) (sym holds.is) ∙ (sym (a.of.locals t l at) ∙ x.1) in
-      let ended : call_at (script_of t (asked_at nodes input.asked k).calls) x.0.ended ≡ None = (holds.decided t x.0 local).over (wants_none input.rows x.0 none_x) in
+      let ended : call_at (script_of t (asked_at nodes input.asked k).calls) x.0.ended ≡ None =
+      (holds.decided t x.0 local).over (wants_none input.rows x.0 none_x) in
       let at_route : slice_get (route_of nodes input.asked t) l.ended ≡ Some k = ap (λ (r : List ℕ). slice_get r l.ended) (sym s.route) ∙ now in
       let same : x.0.ended ≡ place_at nodes input t l.ended k = s.ended k x.0 x.1 ∙ ap (λ (r : List ℕ). count_by (λ j. eqb j k) (take l.ended r)) s.route in
       let gone : call_at (script_of t input.asked.calls) l.ended ≡ None =
@@ -393,20 +406,23 @@ module _ (nodes : ℕ) (input : Input) (valid : IsValidInput input) (taken : not
             let long = over order h of t own.0 own.1 (node_now own.0) refl none in
             told_first order h t own.0 own.1 ∙ take_all (own.0.ended + under_now (local_now own.0)) (calls_in input.asked t) (omega (arith, long)));
         others = λ t high.
-            h.tells t ∙ ap (λ o. map (told t) (option_map_or (λ (l : Beside NodeLocal). l.answers) o [])) (slice_get_past (run numa order).locals t (omega (arith, high, h.count)));
+            h.tells t ∙ ap (λ o. map (told t) (option_map_or (λ (l : Beside NodeLocal). l.answers) o []))
+            (slice_get_past (run numa order).locals t (omega (arith, high, h.count)));
       }
 
   -- after every order
   holds_after : (order : List ℕ) → IsOrder numa order → HoldsAfter nodes input order
   holds_after order of =
       let h = each_run order of in
-      let at : (k : ℕ) → (low : k < nodes) → allocator.HoldsAfter (no_caches input.rows) about_none Holds (asked_at nodes input.asked k) (order_at nodes input k order) =
+      let at : (k : ℕ) → (low : k < nodes)
+      → allocator.HoldsAfter (no_caches input.rows) about_none Holds (asked_at nodes input.asked k) (order_at nodes input k order) =
       λ k low. (law nodes input valid taken some k).holds (order_at nodes input k order) (h.at_nodes k low).moves in
-      let made : (k : ℕ) → (low : k < nodes) → IsRunOf (input_at nodes input k) (order_at nodes input k order) (node input.rows input.asked.config (acts_of (input_at nodes input k) (order_at nodes input k order))) =
-      λ k low. node_is_its_acts.runs (input_at nodes input k) (order_at nodes input k order)
-      (record { valid = valid_common (input_at nodes input k) (valid_at nodes input valid k) (taken_at nodes input is_common k taken); moves = (h.at_nodes k low).moves }) in
+      let made : (k : ℕ) → (low : k < nodes) → (let at_k = input_at nodes input k in let o = order_at nodes input k order in
+      IsRunOf at_k o (node input.rows input.asked.config (acts_of at_k o))) =
+      λ k low. (let common = valid_common (input_at nodes input k) (valid_at nodes input valid k) (taken_at nodes input is_common k taken) in
+      node_is_its_acts.runs (input_at nodes input k) (order_at nodes input k order) (record { valid = common; moves = (h.at_nodes k low).moves })) in
       let blocks : (k : ℕ) → k < nodes → IsBlockRun huge (length_of input.rows) (lines_at k h.lines) =
-      λ k low. subst (IsBlockRun huge (length_of input.rows)) (sym (h.told_at k low ∙ ap (λ (z : World NodePart NodeLocal). allocator.calls z.locals (order_at nodes input k order)) (at k low).is)) (at k low).blocks in
+      λ k low. rw (h.told_at k low, (at k low).is) (at k low).blocks in
       record {
         at_nodes = λ k low. record { moves = (h.at_nodes k low).moves; of = (h.at_nodes k low).of; holds = at k low; made = made k low };
         count = h.count;
@@ -433,4 +449,4 @@ nodes_are_lawful nodes input some valid taken =
     }
 
 pub threads_count : (nodes : ℕ) (input : Input) → length (numa_rules nodes input).locals ≡ input.asked.config.threads
-threads_count nodes input = length-map (range_with_len 0 input.asked.config.threads) (first_thread nodes input) ∙ length-range_with_len 0 input.asked.config.threads
+threads_count nodes input = rw (length-map, length-range_with_len)

@@ -39,7 +39,8 @@ module _ (nodes : ℕ) (input : Input) where
   call_at_node t e k at =
       let n : ℕ = place_at t e k in
       let same : slice_get (filter (λ (c : ThreadCall). eqb c.thread.0 t) (filter (At k) calls)) n ≡ slice_get (own t) e =
-      ap (λ (cs : List ThreadCall). slice_get cs n) (filter_both (λ (c : ThreadCall). eqb c.thread.0 t) (At k) calls) ∙ kept_at (node_of nodes input.asked) k (own t) e at in
+      ap (λ (cs : List ThreadCall). slice_get cs n)
+      (filter_both (λ (c : ThreadCall). eqb c.thread.0 t) (At k) calls) ∙ kept_at (node_of nodes input.asked) k (own t) e at in
       ap (option_map (λ (p : Planned). p.call))
       (slice_get-map (λ (c : ThreadCall). c.planned) (filter (λ (c : ThreadCall). eqb c.thread.0 t) (filter (At k) calls)) n
       ∙ (ap (option_map (λ (c : ThreadCall). c.planned)) same ∙ sym (slice_get-map (λ (c : ThreadCall). c.planned) (own t) e)))
@@ -54,7 +55,8 @@ module _ (nodes : ℕ) (input : Input) where
     pub call_is : c.planned.call ≡ call
     pub node : node_of nodes input.asked c ≡ k
 
-  pub call_there : (t e k : ℕ) (call : Call) → slice_get (route_of nodes input.asked t) e ≡ Some k → call_at (script_of t calls) e ≡ Some call → IsCallAt t k call
+  pub call_there : (t e k : ℕ) (call : Call) → slice_get (route_of nodes input.asked t) e ≡ Some k → call_at (script_of t calls) e ≡ Some call
+      → IsCallAt t k call
   call_there t e k call at is = grind (arith, nat_tests, map_some, slice_get-map, kept_there)
 
   -- it acts at its node
@@ -64,7 +66,8 @@ module _ (nodes : ℕ) (input : Input) where
 
   module _ (valid : IsValidInput input) where
     -- which is the node of each label that it is of
-    label_by : (t k : ℕ) (label : ℕ) (call : Call) → IsCallAt t k call → (allocates label call ≡ true) ⊎ (frees label call ≡ true) → k ≡ owner nodes input valid label
+    label_by : (t k : ℕ) (label : ℕ) (call : Call) → IsCallAt t k call → (allocates label call ≡ true) ⊎ (frees label call ≡ true)
+        → k ≡ owner nodes input valid label
     label_by t k label call s about = grind (arith, nat_tests, made_at, acts_there, false≢true)
 
     pub label_there : (t k : ℕ) (call : Call) → IsCallAt t k call → (x : NodeLine) → x.node ≡ k → x.line.call ≡ call → (label : ℕ) → IsAbout label x

@@ -16,7 +16,9 @@ pub record IsSplit {X : Type 0} (p : X → Bool) (xs earlier : List X) (x : X) :
 split_here : {X : Type 0} (p : X → Bool) (y : X) (ys earlier : List X) (x : X) (later : List X) → p y ≡ true
     → ((earlier later : List X) → earlier ++ x ∷ later ≡ filter p ys → IsSplit p ys earlier x)
     → earlier ++ x ∷ later ≡ y ∷ filter p ys → IsSplit p (y ∷ ys) earlier x
-split_here p y ys [] x later passes rest is = let e : x ≡ y = cc in record { before = []; behind = ys; is = ap (λ z. z ∷ ys) e; kept = refl; passes = ap p e ∙ passes }
+split_here p y ys [] x later passes rest is =
+    let e : x ≡ y = cc in
+    record { before = []; behind = ys; is = ap (λ z. z ∷ ys) e; kept = refl; passes = ap p e ∙ passes }
 split_here {X} p y ys (e ∷ es) x later passes rest is =
     let same : e ≡ y = cc in
     let tail : es ++ x ∷ later ≡ filter p ys = cc in

@@ -39,7 +39,8 @@ module _ {X : Type 0} (f : ℕ → List X) (width : ℕ) (wide : (k : ℕ) → l
   stays_front all [] i low = refl
   stays_front all (k ∷ ks) i low = stays_front (all ++ f k) ks i (omega (arith, low, length-append all (f k))) ∙ get_front all (f k) i low
 
-  joined_at : (n a d i : ℕ) (all : List X) → d < n → i < width → slice_get (joined all (range_with_len a n)) (length all + (d * width + i)) ≡ slice_get (f (a + d)) i
+  joined_at : (n a d i : ℕ) (all : List X) → d < n → i < width
+      → slice_get (joined all (range_with_len a n)) (length all + (d * width + i)) ≡ slice_get (f (a + d)) i
   joined_at zero a d i all low in_k = absurd (omega arith)
   joined_at (suc n) a zero i all low in_k = grind (arith, length-append, stays_front, get_behind)
   joined_at (suc n) a (suc d) i all low in_k = grind (arith, joined_at n (a + 1) d i (all ++ f a), length-append)
@@ -72,7 +73,9 @@ module _ (nodes : ℕ) (input : Input) where
 
   first_quiet : (k t : ℕ) → under about_none (first_local_of k t).step ≡ 0
   unfolding first_local_of
-  first_quiet k t = first_under (no_caches input.rows).calls about_none (no_caches_law input.rows).entries no_seat (slice_get (script_of t (asked_at nodes input.asked k).calls) 0)
+  first_quiet k t =
+      let call = slice_get (script_of t (asked_at nodes input.asked k).calls) 0 in
+      first_under (no_caches input.rows).calls about_none (no_caches_law input.rows).entries no_seat call
 
   first_ended : (k t : ℕ) → (first_local_of k t).ended ≡ 0
   unfolding first_local_of
@@ -85,7 +88,7 @@ module _ (nodes : ℕ) (input : Input) where
       record {
         width_is = node_width k;
         parts = λ i in_k. joined_from (λ j. (rules_at nodes input j).parts) (width_of input) node_width nodes k i low in_k;
-        threads = length-map (range_with_len 0 n) (first_thread nodes input) ∙ sym (length-map (range_with_len 0 n) (first_of (no_caches input.rows) about_none (asked_at nodes input.asked k)));
+        threads = simp length-map;
         locals = λ t l at.
             (let found = is_number (first_thread nodes input) n t l at in
             ap (λ (m : Beside NodeLocal). slice_get m.here k) (sym found.1)

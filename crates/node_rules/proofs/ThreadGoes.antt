@@ -48,8 +48,8 @@ module _ (nodes : ℕ) (input : Input) where
     pub calls : map (λ (d : Decided). d.call) l.answers ≡ take (length l.answers) (calls_in input.asked t)
 
   -- Thread t acts at node k, where it had x and has `new`, whose decided calls are the first ones of its script there.
-  module _ (order ord : List ℕ) (locals : List NodeLocal) (t k : ℕ) (l : Beside NodeLocal) (x new : NodeLocal) (h : IsSeen order t l) (now : node_now l ≡ Some k)
-      (here : slice_get l.here k ≡ Some x) (pick : IsPick (no_caches input.rows) about_none (asked_at nodes input.asked k) locals ord t x new)
+  module _ (order ord : List ℕ) (locals : List NodeLocal) (t k : ℕ) (l : Beside NodeLocal) (x new : NodeLocal) (h : IsSeen order t l)
+      (now : node_now l ≡ Some k) (here : slice_get l.here k ≡ Some x) (pick : IsPick (no_caches input.rows) about_none (asked_at nodes input.asked k) locals ord t x new)
       (was : IsAmong about_none (script_of t (asked_at nodes input.asked k).calls) x)
       (is : IsAmong about_none (script_of t (asked_at nodes input.asked k).calls) new) where
     abbrev huge : ℕ

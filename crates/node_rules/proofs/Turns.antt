@@ -1,5 +1,6 @@
 -- Turns of memory nodes: the earliest call that hasn't ended is, at its node, the earliest one of those that act there.
-use Rattle.std.proofs.Common.{◌≡◌, ℕ, zero, suc, ◌<◌, ◌≤◌, Bool, eqb, ltb, List, [], ◌∷◌, ◌++◌, length, map, take, filter, Some, refl, sym, ◌∙◌, subst, arith, inl, inr}
+use Rattle.std.proofs.Common.{◌≡◌, ℕ, zero, suc, ◌<◌, ◌≤◌, Bool, eqb, ltb, List, [], ◌∷◌, ◌++◌, length, map}
+use Rattle.std.proofs.Common.{take, filter, Some, refl, sym, ◌∙◌, subst, arith, inl, inr}
 use Rattle.std.specs.Prelude.{slice_get, count_by}
 use Rattle.std.proofs.lemmas.Bool.{cases_Bool, cases_eq, eq-eqb, ltb-true}
 use Rattle.std.proofs.lemmas.List.{map-append}
@@ -36,11 +37,13 @@ turn_of done calls earlier (c ∷ cs) t is ended next =
           let pushed : map thread_of (earlier ++ c ∷ []) ≡ map thread_of earlier ++ u ∷ [] = map-append thread_of earlier (c ∷ []) in
           let more : (v : ℕ) → picks_of v (map thread_of (earlier ++ c ∷ [])) ≤ done v =
           λ v. subst (λ us. picks_of v us ≤ done v) (sym pushed) (elim (cases_eq u v) [
-            | inl same ↦ subst (λ x. picks_of x (map thread_of earlier ++ u ∷ []) ≤ done x) same (omega (arith, picks-push_same u (map thread_of earlier), under))
+            | inl same ↦ subst (λ x. picks_of x (map thread_of earlier ++ u ∷ []) ≤ done x) same
+                (omega (arith, picks-push_same u (map thread_of earlier), under))
             | inr apart ↦ omega (arith, picks-push_other v u (map thread_of earlier) apart, ended v)
           ]) in
           let go : next_turn done (map thread_of earlier ++ u ∷ []) (map thread_of cs) ≡ Some t = rw low at next in
-          turn_of done calls (earlier ++ c ∷ []) cs t (append_snoc earlier c cs ∙ is) more (subst (λ us. next_turn done us (map thread_of cs) ≡ Some t) (sym pushed) go)
+          turn_of done calls (earlier ++ c ∷ []) cs t (append_snoc earlier c cs ∙ is) more
+          (subst (λ us. next_turn done us (map thread_of cs) ≡ Some t) (sym pushed) go)
       | inr high ↦ grind (arith, nat_tests, done u)
     ]
 
