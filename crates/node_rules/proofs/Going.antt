@@ -1,9 +1,9 @@
 -- One pick more of memory nodes side by side: the world of its node goes on by it, those of the others stay, and what it decided is
 -- told.
 use Rattle.std.proofs.Common.{◌≡◌, ℕ, ◌+◌, ◌*◌, ◌<◌, ◌≤◌, ◌==◌, false, cond, eqb, List, [], ◌∷◌, ◌++◌, length}
-use Rattle.std.proofs.Common.{map, fold, Option, Some, refl, sym, ap, ◌∙◌, subst, arith, inl, inr, All}
-use Rattle.std.specs.Prelude.{slice_get, slice_set, option_map}
-use Rattle.std.specs.Option.{option_flatten, option_map_or}
+use Rattle.std.proofs.Common.{map, fold, Some, refl, sym, ap, ◌∙◌, subst, arith, inl, inr, All}
+use Rattle.std.specs.Prelude.{slice_get, slice_set}
+use Rattle.std.specs.Option.{option_map_or}
 use Rattle.std.specs.List.{range_with_len}
 use Rattle.std.proofs.lemmas.Bool.{cases_eq, eq-eqb, ne_eqb}
 use Rattle.std.proofs.lemmas.List.{append-nil, length-append, length-map, length-set, map-append}
@@ -33,7 +33,7 @@ use Rattle.no_caches.specs.NoCaches.{no_caches, about_none, Holds, fits}
 use Rattle.no_caches.specs.NoCachesLaw.{lawful_in}
 use Rattle.node_rules.specs.Joined.{NodeLine, told_line, lines_at, AreOfNodes, IsAbout}
 use Rattle.node_rules.specs.Nodes.{acts_at, asked_at, input_at}
-use Rattle.node_rules.specs.Beside.{Beside, node_now, node_next, decided_at, picks_from, with_act, IsNodeOf}
+use Rattle.node_rules.specs.Beside.{Beside, node_next, decided_at, picks_from, with_act, IsNodeOf}
 use Rattle.node_rules.specs.Numa.{NodeLocal, NodePart, width_of, rules_at, numa_rules, numa_calls, first_parts, first_thread}
 use Rattle.node_rules.specs.NumaLaw.{order_at, world_at}
 use Rattle.node_rules.proofs.Moving.{IsMove, moves, pick_is, does_move, own_moves, own_pick}
@@ -184,7 +184,7 @@ module _ (nodes : ℕ) (input : Input) (valid : IsValidInput input) (taken : not
 
     -- the nodes' picks
     node_is : node_next w t ≡ Some k
-    node_is = ap (λ (o : Option (Beside NodeLocal)). option_flatten (option_map node_now o)) m.at ∙ m.now
+    node_is = rw (m.at, m.now)
 
     order_here : order_at nodes input k next ≡ order_at nodes input k order ++ t ∷ []
     order_here = grind (arith, nat_tests, node_is, picks_push)
@@ -202,12 +202,11 @@ module _ (nodes : ℕ) (input : Input) (valid : IsValidInput input) (taken : not
         own_world (width_of input) k w t m.place.0 m.l gone m.x act.1 m.p act.0 m.at m.here m.there in_width refl v here.of part local in
         record {
           moves = record {
-            moves = subst (AllMove (rules_at nodes input k) (start (rules_at nodes input k))) (sym order_here)
+            moves = rw order_here
                 (all_move-push (rules_at nodes input k) (start (rules_at nodes input k)) (order_at nodes input k order) t here.moves.moves moved);
             few = omega (arith, few, ap length order_here, length-append (order_at nodes input k order) (t ∷ []), picks_less numa k (start numa) order);
           };
-          of = subst (λ (z : World NodePart (Beside NodeLocal)). IsNodeOf (width_of input) k z (world_at nodes input k next)) (sym goes)
-              (subst (IsNodeOf (width_of input) k (with_pair w (k * width_of input + m.place.0) t (act.0, gone))) (sym world_here) of);
+          of = rw (goes, world_here) of;
         }
 
     at_other : (j : ℕ) → j < nodes → (j ≡ k → ⊥) → IsAt next j

@@ -117,7 +117,7 @@ module _ (nodes huge : ℕ) (round : ℕ → ℕ) (xs : List NodeLine) (stand : 
       let within = within_with (start huge) (start_rises huge) x.node (blocks x.node) answer fit (stand.inside x.node) in
       let inside : ℕ → List Extent → Type 0 = λ j bs. All (IsWithin (start huge) j) bs in
       record {
-        run = subst (IsBlockRun (nodes * huge) round) (sym told) (IsBlockRun-push round (nodes * huge) all (told_line huge x) stand.run allows);
+        run = rw told (IsBlockRun-push round (nodes * huge) all (told_line huge x) stand.run allows);
         inside = at_each (λ j. inside j (node_blocks huge longer j)) x.node (subst (inside x.node) (sym its_blocks) within)
             (λ j other. subst (inside j) (sym (others j other)) (stand.inside j));
         blocks =

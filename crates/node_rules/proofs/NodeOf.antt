@@ -1,7 +1,6 @@
 -- What one act at a node makes of the worlds of all nodes: that of its own node goes on by it, and the others stay.
-use Rattle.std.proofs.Common.{◌≡◌, ℕ, ◌+◌, ◌*◌, ◌<◌, List, Some, sym, ap, ◌∙◌, arith, inl, inr}
+use Rattle.std.proofs.Common.{◌≡◌, ℕ, ◌+◌, ◌*◌, ◌<◌, List, Some, sym, ap, ◌∙◌, arith}
 use Rattle.std.specs.Prelude.{slice_get, slice_set}
-use Rattle.std.proofs.lemmas.Bool.{cases_eq}
 use Rattle.std.proofs.lemmas.List.{length-set}
 use Rattle.std.proofs.lemmas.Bool.Decides.{nat_tests}
 use Rattle.tc_model.specs.Run.{World, with_pair}
@@ -45,11 +44,7 @@ module _ {P L : Type 0} (width k : ℕ) (w : World P (Beside L)) (t i : ℕ) (l 
   other_locals : (j : ℕ) (v : World P L) → (j ≡ k → ⊥) → IsNodeOf width j w v → (u : ℕ) (m : Beside L) → slice_get next.locals u ≡ Some m
       → slice_get m.here j ≡ slice_get v.locals u
   other_locals j v other of u m is =
-      elim (cases_eq t u) [
-        | inl same ↦
-            grind (arith, same_thread m (ap (slice_get next.locals) same ∙ is), set_elsewhere l.here k j new (λ h. other (sym h)), other, of.locals t l)
-        | inr apart ↦ of.locals u m (sym (set_elsewhere w.locals t u left apart) ∙ is)
-      ]
+      grind (arith, nat_tests, same_thread m, set_elsewhere l.here k j new, set_elsewhere w.locals t u left, other, of.locals)
 
   pub other_world : (j : ℕ) (v : World P L) → (j ≡ k → ⊥) → IsNodeOf width j w v → IsNodeOf width j next v
   other_world j v other of =

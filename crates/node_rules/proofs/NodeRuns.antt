@@ -1,10 +1,10 @@
 -- The parts and the replies of a run are those of its acts.
-use Rattle.std.proofs.Common.{◌≡◌, ℕ, suc, ◌+◌, List, [], ◌∷◌, ◌++◌, length, fold, Some, refl, sym, ap, subst, ◌∙◌, arith, slice_get}
+use Rattle.std.proofs.Common.{◌≡◌, ℕ, suc, List, [], ◌∷◌, ◌++◌, length, fold, Some, refl, sym, ap, subst, ◌∙◌, arith, slice_get}
 use Rattle.std.specs.Option.{option_and_then, option_to_list}
 use Rattle.std.proofs.lemmas.List.{append_assoc}
 use Rattle.std.proofs.lemmas.List.Sums.{fold-append}
 use Rattle.tc_model.specs.Run.{World, pick, run}
-use Rattle.alloc_rules.proofs.Common.{ClassRow, Fits, Input, IsOrder, IsReady, IsValid, Rules, append_snoc, first_shards, front_moves, length-append}
+use Rattle.alloc_rules.proofs.Common.{Fits, Input, IsOrder, IsReady, IsValid, Rules, append_snoc, front_moves, length-append}
 use Rattle.alloc_rules.proofs.Common.{length-set, shard_at, start}
 use Rattle.alloc_rules.specs.FrontLaw.{IsNotOwn}
 use Rattle.no_caches.specs.NoCaches.{fits}
@@ -14,11 +14,7 @@ use Rattle.node_rules.specs.Numa.{NodeLocal, NodePart}
 use Rattle.node_rules.specs.NodeActs.{HasNode, node_rules, asked_by, acts_from, acts_of, IsRunOf, NodeIsItsActs}
 use Rattle.node_rules.proofs.EachAct.{acts_are_asked}
 use Rattle.node_rules.proofs.EachPick.{Picked, picked}
-
--- there is a shard for each class
-shards_count : (room k : ℕ) (rows : List ClassRow) → length (first_shards room k rows) ≡ length rows
-shards_count room k [] = refl
-shards_count room k (row ∷ rows) = ap (λ (n : ℕ). suc n) (shards_count room (k + 1) rows)
+use Rattle.node_rules.proofs.Started.{shards_count}
 
 answer_many : (n : Node) (a : Ask) → length (answer n a).0.shards ≡ length n.shards
 answer_many n (OfShard k a) = length-set n.shards k.0 (shard_answer (shard_at n.shards k.0) a).0

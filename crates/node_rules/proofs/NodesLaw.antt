@@ -1,6 +1,6 @@
 -- The law of memory nodes: all that holds between two picks, that each pick fits, that the earliest call moves, and that scripts end.
 use Rattle.std.proofs.Common.{◌≡◌, ℕ, zero, suc, ◌+◌, ◌*◌, ◌<◌, ◌≤◌, false, eqb, List, [], ◌∷◌, ◌++◌, length}
-use Rattle.std.proofs.Common.{map, take, drop, filter, get_or, Option, Some, None, IsSomeAnd, option_and_then, refl, sym, ap, ◌∙◌, subst, arith, inl, inr, All}
+use Rattle.std.proofs.Common.{map, take, drop, filter, get_or, Option, Some, None, refl, sym, ap, ◌∙◌, subst, arith, All}
 use Rattle.std.specs.Prelude.{slice_get, option_map, count_by}
 use Rattle.std.specs.Option.{option_flatten, option_map_or}
 use Rattle.std.specs.List.{range_with_len}
@@ -114,14 +114,11 @@ module _ (nodes : ℕ) (input : Input) (valid : IsValidInput input) (taken : not
 
   -- the start, and each run
   none_told : (t : ℕ) (o : Option (Beside NodeLocal)) → slice_get first t ≡ o → [] ≡ map (told t) (option_map_or (λ (l : Beside NodeLocal). l.answers) o [])
-  none_told t None at = refl
-  none_told t (Some l) at = ap (λ (m : Beside NodeLocal). map (told t) m.answers) (is_number (first_thread nodes input) threads t l at).1
+  none_told t o at = grind (arith, is_number (first_thread nodes input) threads t)
 
   none_below : (t : ℕ) (o : Option (Beside NodeLocal)) → slice_get first t ≡ o
       → AreBelow (λ (d : Decided). d.act) 0 (option_map_or (λ (l : Beside NodeLocal). l.answers) o [])
-  none_below t None at = tt
-  none_below t (Some l) at =
-      subst (λ (m : Beside NodeLocal). AreBelow (λ (d : Decided). d.act) 0 m.answers) (is_number (first_thread nodes input) threads t l at).1 tt
+  none_below t o at = grind (arith, is_number (first_thread nodes input) threads t)
 
   started : Run []
   started = grind (
@@ -164,18 +161,8 @@ module _ (nodes : ℕ) (input : Input) (valid : IsValidInput input) (taken : not
     want : one.want x ≡ Some place
     is : part.0 ≡ node * width + place.0
 
-  want_place : (l : Beside NodeLocal) (part : PartNo) (k : ℕ) (x : NodeLocal) (o : Option PartNo)
-      → node_now l ≡ Some k → slice_get l.here k ≡ Some x → one.want x ≡ o → option_map (part_at one answers width huge k) o ≡ Some part → IsWant l part
-  want_place l part k x o now here want is = grind (arith)
-
-  want_here : (l : Beside NodeLocal) (part : PartNo) (k : ℕ) (o : Option NodeLocal) → node_now l ≡ Some k → slice_get l.here k ≡ o
-      → option_and_then (λ x. option_map (part_at one answers width huge k) (one.want x)) o ≡ Some part → IsWant l part
-  want_here l part k None now here is = absurd (cc)
-  want_here l part k (Some x) now here is = want_place l part k x (one.want x) now here refl is
-
   want_is : (l : Beside NodeLocal) (part : PartNo) (o : Option ℕ) → node_now l ≡ o → want_by one answers width huge l o ≡ Some part → IsWant l part
-  want_is l part None now is = absurd (cc)
-  want_is l part (Some k) now is = want_here l part k (slice_get l.here k) now refl is
+  want_is l part o now is = grind (arith)
 
   -- an act of a node ends at most one call and decides at most one
   one_act : (asked : Asked) → asked.config.huge ≤ 4096 → (locals : List NodeLocal) (order : List ℕ) (t : ℕ) (x new : NodeLocal)
@@ -183,19 +170,14 @@ module _ (nodes : ℕ) (input : Input) (valid : IsValidInput input) (taken : not
   one_act asked low locals order t x new pick =
       let more = length-append x.answers pick.new in
       let grown = ap length pick.answers in
-      let ended : (x.ended ≤ new.ended) × (new.ended ≤ x.ended + 1) = elim pick.ended [
-        | inl same ↦ (omega (arith, same), omega (arith, same))
-        | inr next ↦ (omega (arith, next.0), omega (arith, next.0))
-      ]
-      in
       let rest : drop (length x.answers) new.answers ≡ pick.new = ap (drop (length x.answers)) pick.answers ∙ drop-append_seam x.answers pick.new in
       let round = length_of input.rows in
       let run = subst (IsBlockRun asked.config.huge round) pick.told pick.blocks in
       record {
         kept = omega (arith, more, grown);
         few = omega (arith, more, grown, pick.few);
-        rises = ended.0;
-        next = ended.1;
+        rises = grind (arith, pick.ended);
+        next = grind (arith, pick.ended);
         low = subst (λ (ds : List Decided). All (λ (d : Decided). IsLow d.answer) ds) (sym rest)
             (low_last asked.config.huge low round (allocator.calls locals order) t pick.new pick.few run);
       }
@@ -217,7 +199,7 @@ module _ (nodes : ℕ) (input : Input) (valid : IsValidInput input) (taken : not
         part = found.part;
         there = ap (slice_get (run numa order).parts) w.is ∙ (a.of.parts w.place.0 in_width ∙ found.there);
         fit = record {
-          now = subst (λ o. IsSomeAnd o (Fits input.rows fits found.part)) (sym now) found.fit;
+          now = rw now found.fit;
           acts = omega (arith, seen.thread.acts, count_by-le-length (λ u. eqb u t) order, of.few);
           ended = omega (arith, seen.thread.slow, seen.thread.acts, count_by-le-length (λ u. eqb u t) order, of.few);
           goes = λ x is goes.
@@ -280,10 +262,7 @@ module _ (nodes : ℕ) (input : Input) (valid : IsValidInput input) (taken : not
     route u = ap (λ (cs : List ThreadCall). map (node_of nodes input.asked) (filter (λ (c : ThreadCall). eqb c.thread.0 u) cs)) (sym turn.is)
 
     now : node_now own.0 ≡ Some k
-    now =
-        ap (λ (r : List ℕ). slice_get r own.0.ended) ((h.threads t own.0 own.1).thread.route ∙ route t)
-        ∙ (ap (slice_get (map (node_of nodes input.asked) (filter (λ (c : ThreadCall). eqb c.thread.0 t) (before ++ turn.c ∷ turn.behind)))) ended
-        ∙ own_at (node_of nodes input.asked) t before turn.c turn.behind turn.thread)
+    now = rw ((h.threads t own.0 own.1).thread.route, route t, ended) (own_at (node_of nodes input.asked) t before turn.c turn.behind turn.thread)
 
     -- the node's calls before it
     abbrev kept : List ThreadCall
@@ -298,8 +277,7 @@ module _ (nodes : ℕ) (input : Input) (valid : IsValidInput input) (taken : not
         let s = (h.threads u l at).thread in
         let x = there_is l.here k (omega (arith, low, s.here)) in
         let local : slice_get v.locals u ≡ Some x.0 = sym (a.of.locals u l at) ∙ x.1 in
-        ap (λ o. option_map_or (rules_at nodes input k).done o 0) local
-        ∙ (s.ended k x.0 x.1 ∙ ap (λ (r : List ℕ). count_by (λ j. eqb j k) (take l.ended r)) s.route)
+        rw (local, ← s.route) (s.ended k x.0 x.1)
 
     kept_done : (u : ℕ) (o : Option (Beside NodeLocal)) → slice_get w.locals u ≡ o → picks_of u (map thread_of kept) ≤ done_in (rules_at nodes input k) v u
     kept_done u None at = grind (arith, kept_is u)
@@ -383,17 +361,16 @@ module _ (nodes : ℕ) (input : Input) (valid : IsValidInput input) (taken : not
       let low : k < nodes = node_low order h t l at k now in
       let x = there_is l.here k (omega (arith, low, s.here)) in
       let a = h.at_nodes k low in
-      let place = part_at one answers width huge k in
-      let none_x : one.want x.0 ≡ None = map_none place (one.want x.0) (sym (ap (option_and_then (λ y. option_map place (one.want y))) x.1) ∙ none) in
+      let none_x : one.want x.0 ≡ None = map_none (part_at one answers width huge k) (one.want x.0) (rw x.1 at none) in
       let holds = (law nodes input valid taken some k).holds (order_at nodes input k order) a.moves in
       let local : slice_get holds.locals t ≡ Some x.0 =
       ap (λ (z : World NodePart NodeLocal). slice_get z.locals t) (sym holds.is) ∙ (sym (a.of.locals t l at) ∙ x.1) in
       let ended : call_at (script_of t (asked_at nodes input.asked k).calls) x.0.ended ≡ None =
       (holds.decided t x.0 local).over (wants_none input.rows x.0 none_x) in
       let at_route : slice_get (route_of nodes input.asked t) l.ended ≡ Some k = ap (λ (r : List ℕ). slice_get r l.ended) (sym s.route) ∙ now in
-      let same : x.0.ended ≡ place_at nodes input t l.ended k = s.ended k x.0 x.1 ∙ ap (λ (r : List ℕ). count_by (λ j. eqb j k) (take l.ended r)) s.route in
+      let same : x.0.ended ≡ place_at nodes input t l.ended k = rw (← s.route) (s.ended k x.0 x.1) in
       let gone : call_at (script_of t input.asked.calls) l.ended ≡ None =
-      sym (call_at_node nodes input t l.ended k at_route) ∙ (ap (call_at (script_of t (asked_at nodes input.asked k).calls)) (sym same) ∙ ended) in
+      rw (← call_at_node nodes input t l.ended k at_route, ← same) ended in
       past_calls t l.ended gone
 
   all_told : (order : List ℕ) (of : IsOrder numa order) (h : Run order) → HaveEnded numa (run numa order)

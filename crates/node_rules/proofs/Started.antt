@@ -1,5 +1,5 @@
 -- The start: what memory nodes side by side begin with is what each begins with.
-use Rattle.std.proofs.Common.{◌≡◌, ℕ, zero, suc, ◌+◌, ◌*◌, ◌<◌, List, [], ◌∷◌, ◌++◌, length, map, fold, Option, Some, None, refl, sym, ap, ◌∙◌, arith}
+use Rattle.std.proofs.Common.{◌≡◌, ℕ, zero, suc, ◌+◌, ◌*◌, ◌<◌, List, [], ◌∷◌, ◌++◌, length, map, fold, Option, Some, refl, sym, ap, ◌∙◌, arith}
 use Rattle.std.specs.Prelude.{slice_get, option_map}
 use Rattle.std.specs.Option.{option_flatten}
 use Rattle.std.specs.List.{range_with_len}
@@ -55,7 +55,7 @@ at_number f n k low = slice_get-map f (range_with_len 0 n) k ∙ ap (option_map 
 pub is_number : {X : Type 0} (f : ℕ → X) (n k : ℕ) (x : X) → slice_get (map f (range_with_len 0 n)) k ≡ Some x → (k < n) × (f k ≡ x)
 is_number f n k x at = grind (arith, slice_get_within, length-map, length-range_with_len, at_number)
 
-shards_count : (room k : ℕ) (rows : List ClassRow) → length (first_shards room k rows) ≡ length rows
+pub shards_count : (room k : ℕ) (rows : List ClassRow) → length (first_shards room k rows) ≡ length rows
 shards_count room k [] = refl
 shards_count room k (row ∷ rows) = ap (λ n. suc n) (shards_count room (k + 1) rows)
 
@@ -96,13 +96,8 @@ module _ (nodes : ℕ) (input : Input) where
             ∙ sym (at_number (first_of (no_caches input.rows) about_none (asked_at nodes input.asked k)) n t found.0)));
       }
 
-  quiet_here : (t k : ℕ) (o : Option NodeLocal) → slice_get (first_thread nodes input t).here k ≡ o → under_now o ≡ 0
-  quiet_here t k None at = refl
-  quiet_here t k (Some x) at = sym (ap (λ (y : NodeLocal). under about_none y.step) (first_here t k x at)) ∙ first_quiet k t
-
   quiet_now : (t : ℕ) (o : Option ℕ) → under_now (option_flatten (option_map (slice_get (first_thread nodes input t).here) o)) ≡ 0
-  quiet_now t None = refl
-  quiet_now t (Some k) = quiet_here t k (slice_get (first_thread nodes input t).here k) refl
+  quiet_now t o = grind (arith, first_here t, first_quiet)
 
   -- and so is each thread's
   pub thread_starts : (t : ℕ) (l : Beside NodeLocal) → slice_get (start (numa_rules nodes input)).locals t ≡ Some l → IsSeen nodes input [] t l

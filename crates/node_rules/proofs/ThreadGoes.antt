@@ -1,5 +1,5 @@
 -- A thread behind one act at the node of its call: it goes on within the call, or comes to the next one, at whichever node.
-use Rattle.std.proofs.Common.{◌≡◌, ℕ, ◌+◌, ◌<◌, ◌≤◌, eqb, List, [], ◌∷◌, ◌++◌, length, map, take, Option, Some, None, refl, sym, ap, ◌∙◌, arith}
+use Rattle.std.proofs.Common.{◌≡◌, ℕ, ◌+◌, ◌<◌, ◌≤◌, eqb, List, [], ◌∷◌, ◌++◌, length, map, take, Option, Some, refl, sym, ap, ◌∙◌, arith}
 use Rattle.std.specs.Prelude.{slice_get, count_by, option_map}
 use Rattle.std.specs.Option.{option_flatten}
 use Rattle.std.proofs.Math.Seq.{drop-append_seam}
@@ -49,7 +49,8 @@ module _ (nodes : ℕ) (input : Input) where
 
   -- Thread t acts at node k, where it had x and has `new`, whose decided calls are the first ones of its script there.
   module _ (order ord : List ℕ) (locals : List NodeLocal) (t k : ℕ) (l : Beside NodeLocal) (x new : NodeLocal) (h : IsSeen order t l)
-      (now : node_now l ≡ Some k) (here : slice_get l.here k ≡ Some x) (pick : IsPick (no_caches input.rows) about_none (asked_at nodes input.asked k) locals ord t x new)
+      (now : node_now l ≡ Some k) (here : slice_get l.here k ≡ Some x)
+      (pick : IsPick (no_caches input.rows) about_none (asked_at nodes input.asked k) locals ord t x new)
       (was : IsAmong about_none (script_of t (asked_at nodes input.asked k).calls) x)
       (is : IsAmong about_none (script_of t (asked_at nodes input.asked k).calls) new) where
     abbrev huge : ℕ
@@ -121,15 +122,18 @@ module _ (nodes : ℕ) (input : Input) where
       goes_on : IsSeen (order ++ t ∷ []) t left
       goes_on =
           record {
-            thread = record {
-              here = length-set l.here k new ∙ h.thread.here;
-              route = h.thread.route;
-              acts = omega (arith, h.thread.acts, picks-push_same t order);
-              decided = grind (arith, now_is left (Some k) still_now, still_now, set_k, more, node_more, had, still);
-              ended = goes_ended;
-              within = omega (arith, h.thread.within, still);
-              slow = omega (arith, h.thread.slow, still);
-            };
+            thread = grind (
+              arith,
+              length-set l.here k new,
+              picks-push_same t order,
+              now_is left (Some k) still_now,
+              set_k,
+              more,
+              node_more,
+              had,
+              still,
+              goes_ended,
+            );
             quiet = grind (arith, still_now, set_j, not_now);
             calls = calls_by pick.new refl pick.few;
           }
@@ -142,16 +146,8 @@ module _ (nodes : ℕ) (input : Input) where
       all_quiet : (j : ℕ) (y : NodeLocal) → slice_get left.here j ≡ Some y → under about_none y.step ≡ 0
       all_quiet j y at = grind (arith, nat_tests, set_k, set_j, not_now)
 
-      quiet_at : (o : Option NodeLocal) → ((y : NodeLocal) → o ≡ Some y → under about_none y.step ≡ 0) → under_now o ≡ 0
-      quiet_at None each = refl
-      quiet_at (Some y) each = each y refl
-
-      local_by : (o : Option ℕ) → ((y : NodeLocal) → option_flatten (option_map (slice_get left.here) o) ≡ Some y → under about_none y.step ≡ 0)
-      local_by None y at = absurd (cc)
-      local_by (Some j) y at = all_quiet j y at
-
       none_under : under_now (local_now left) ≡ 0
-      none_under = quiet_at (local_now left) (local_by (node_now left))
+      none_under = grind (arith, all_quiet)
 
       taken : take left.ended l.route ≡ take l.ended l.route ++ k ∷ []
       taken = ap (λ n. take n l.route) one_more ∙ take_next l.route l.ended k now

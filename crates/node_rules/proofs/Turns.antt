@@ -2,7 +2,7 @@
 use Rattle.std.proofs.Common.{◌≡◌, ℕ, zero, suc, ◌<◌, ◌≤◌, Bool, eqb, ltb, List, [], ◌∷◌, ◌++◌, length, map}
 use Rattle.std.proofs.Common.{take, filter, Some, refl, sym, ◌∙◌, subst, arith, inl, inr}
 use Rattle.std.specs.Prelude.{slice_get, count_by}
-use Rattle.std.proofs.lemmas.Bool.{cases_Bool, cases_eq, eq-eqb, ltb-true}
+use Rattle.std.proofs.lemmas.Bool.{cases_Bool, eq-eqb, ltb-true}
 use Rattle.std.proofs.lemmas.List.{map-append}
 use Rattle.std.proofs.Math.Seq.{append_snoc}
 use Rattle.std.proofs.lemmas.Bool.Decides.{nat_tests}
@@ -31,21 +31,12 @@ turn_of : (done : ℕ → ℕ) (calls earlier rest : List ThreadCall) (t : ℕ) 
 turn_of done calls earlier [] t is ended next = absurd (cc)
 turn_of done calls earlier (c ∷ cs) t is ended next =
     let u : ℕ = c.thread.0 in
-    elim (cases_Bool (ltb (picks_of u (map thread_of earlier)) (done u))) [
-      | inl low ↦
-          let under : picks_of u (map thread_of earlier) < done u = ltb-true (picks_of u (map thread_of earlier)) (done u) low in
-          let pushed : map thread_of (earlier ++ c ∷ []) ≡ map thread_of earlier ++ u ∷ [] = map-append thread_of earlier (c ∷ []) in
-          let more : (v : ℕ) → picks_of v (map thread_of (earlier ++ c ∷ [])) ≤ done v =
-          λ v. subst (λ us. picks_of v us ≤ done v) (sym pushed) (elim (cases_eq u v) [
-            | inl same ↦ subst (λ x. picks_of x (map thread_of earlier ++ u ∷ []) ≤ done x) same
-                (omega (arith, picks-push_same u (map thread_of earlier), under))
-            | inr apart ↦ omega (arith, picks-push_other v u (map thread_of earlier) apart, ended v)
-          ]) in
-          let go : next_turn done (map thread_of earlier ++ u ∷ []) (map thread_of cs) ≡ Some t = rw low at next in
-          turn_of done calls (earlier ++ c ∷ []) cs t (append_snoc earlier c cs ∙ is) more
-          (subst (λ us. next_turn done us (map thread_of cs) ≡ Some t) (sym pushed) go)
-      | inr high ↦ grind (arith, nat_tests, done u)
-    ]
+    let n : ℕ = picks_of u (map thread_of earlier) in
+    let pushed : map thread_of (earlier ++ c ∷ []) ≡ map thread_of earlier ++ u ∷ [] = map-append thread_of earlier (c ∷ []) in
+    let more : n < done u → (v : ℕ) → picks_of v (map thread_of (earlier ++ c ∷ [])) ≤ done v =
+    λ under v. rw pushed (grind (arith, nat_tests, picks-push_same u (map thread_of earlier), picks-push_other v u (map thread_of earlier), ended v)) in
+    let rest = turn_of done calls (earlier ++ c ∷ []) cs t (append_snoc earlier c cs ∙ is) in
+    elim (cases_Bool (ltb n (done u))) [ inl low ↦ rest (more (ltb-true n (done u) low)) (rw pushed (rw low at next)) | inr high ↦ grind (arith, nat_tests, done u) ]
 
 pub turn_is : (done : ℕ → ℕ) (calls : List ThreadCall) (t : ℕ) → next_turn done [] (map thread_of calls) ≡ Some t → IsTurn done calls t
 turn_is done calls t next = turn_of done calls [] calls t refl (λ u. omega arith) next
@@ -81,10 +72,7 @@ module _ (f : ThreadCall → ℕ) where
       elim (cases_Bool (eqb b.thread.0 t)) [
         | inl own ↦
             let n : picks_of t (map thread_of (b ∷ bs)) ≡ suc (picks_of t (map thread_of bs)) = omega (arith, rw own at more) in
-            subst Is (sym n) (elim (cases_Bool (eqb (f b) k)) [
-              | inl here ↦ rw (own, here) (omega (arith, rest, rw own at kept, rw here at first))
-              | inr away ↦ rw (own, away) (omega (arith, rest, rw away at first))
-            ])
+            subst Is (sym n) (grind (arith, nat_tests, own, rest, kept, first))
         | inr other ↦ grind (arith, nat_tests)
       ]
 
