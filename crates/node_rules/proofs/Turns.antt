@@ -36,7 +36,10 @@ turn_of done calls earlier (c ∷ cs) t is ended next =
     let more : n < done u → (v : ℕ) → picks_of v (map thread_of (earlier ++ c ∷ [])) ≤ done v =
     λ under v. rw pushed (grind (arith, nat_tests, picks-push_same u (map thread_of earlier), picks-push_other v u (map thread_of earlier), ended v)) in
     let rest = turn_of done calls (earlier ++ c ∷ []) cs t (append_snoc earlier c cs ∙ is) in
-    elim (cases_Bool (ltb n (done u))) [ inl low ↦ rest (more (ltb-true n (done u) low)) (rw pushed (rw low at next)) | inr high ↦ grind (arith, nat_tests, done u) ]
+    elim (cases_Bool (ltb n (done u))) [
+      | inl low ↦ rest (more (ltb-true n (done u) low)) (rw pushed (rw low at next))
+      | inr high ↦ grind (arith, nat_tests, done u)
+    ]
 
 pub turn_is : (done : ℕ → ℕ) (calls : List ThreadCall) (t : ℕ) → next_turn done [] (map thread_of calls) ≡ Some t → IsTurn done calls t
 turn_is done calls t next = turn_of done calls [] calls t refl (λ u. omega arith) next
