@@ -1,6 +1,7 @@
 -- What the labels of a table mean, from label 0 on.
-use Rattle.std.specs.Prelude.{◌≡◌, ℕ, Bool, true, false, List, Some, None, slice_set}
+use Rattle.std.specs.Prelude.{◌≡◌, ℕ, Bool, true, false, List, [], ◌∷◌, Some, None, slice_set}
 use Rattle.std.specs.List.{slice_index_or}
+use Rattle.tc_units.specs.declared.units.Addr.{Addr}
 use Rattle.name_table.specs.declared.table.NameState.{NameState}
 use Rattle.name_table.specs.declared.table.NameState.TheVariants as state
 use Rattle.name_table.specs.declared.table.Slot.{Slot}
@@ -9,11 +10,17 @@ use Rattle.name_table.specs.declared.table.Taken.{Taken}
 use Rattle.name_table.specs.declared.table.Taken.TheVariants.{Set, NotYet}
 
 -- what a table keeps of a label, as its state
-abbrev pub meaning : Slot → NameState
-meaning slot.Unpublished = state.Unpublished
-meaning slot.Null = state.Published None
-meaning (slot.At addr) = state.Published (Some addr)
-meaning slot.Taken = state.Taken
+abbrev pub meaning : Slot → Addr → NameState
+meaning slot.Unpublished addr = state.Unpublished
+meaning slot.Null addr = state.Published None
+meaning slot.At addr = state.Published (Some addr)
+meaning slot.Taken addr = state.Taken
+
+-- the same of all labels
+abbrev pub meanings : List Slot → List Addr → List NameState
+meanings (s ∷ ss) (a ∷ as') = meaning s a ∷ meanings ss as'
+meanings [] addrs = []
+meanings (s ∷ ss) [] = []
 
 -- what a label means
 abbrev pub state_of : List NameState → ℕ → NameState

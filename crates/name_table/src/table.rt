@@ -1,6 +1,6 @@
 //! Labels, each published at most once and taken at most once.
 ghost use Rattle.std.specs.Prelude.{◌≡◌, ◌≢◌, ◌<◌, ◌↔◌, false, length, replicate, slice_set, IfOk};
-ghost use Rattle.name_table.specs.Names.{meaning, state_of, was_published, TakesName};
+ghost use Rattle.name_table.specs.Names.{state_of, was_published, TakesName};
 
 use std::alloc::{AllocError, Global};
 use std::marker::Model;
@@ -26,41 +26,32 @@ pub enum Taken {
     NotYet,
 }
 
-/// What a label means, as the table keeps it: in 16 bytes, since an address that may be null takes as many by itself.
+/// Where a label stands. The address of one that stands at an address lies beside it.
 #[derive(Clone, Copy, PartialEq, Eq)]
 enum Slot {
     Unpublished,
     Null,
-    At(Addr),
+    At,
     Taken,
 }
 
-impl Slot {
-    /// A label that is published with this value.
-    fn published(value: Option<Addr>) -> Slot
-        ensures { meaning result ≡ NameState.Published value }
-    {
-        match value {
-            Some(addr) => Slot::At(addr),
-            None => Slot::Null,
-        }
-    }
-}
-
-/// The states of the labels from 0 on.
+/// The states of the labels from 0 on. They are kept in two lists, of which the small one answers most questions.
 #[derive(Drop)]
 pub struct NameTable {
     slots: Vec<Slot>,
+    addrs: Vec<Addr>,
 }
 
 impl Model for NameTable {
-    ghost use Rattle.std.specs.Prelude.{List, map};
+    ghost use Rattle.std.specs.Prelude.{◌≡◌, List, length};
     ghost use Rattle.name_table.specs.declared.table.NameState.{NameState};
-    ghost use Rattle.name_table.specs.Names.{meaning};
+    ghost use Rattle.name_table.specs.Names.{meanings};
 
     ghost Value = { List NameState };
 
-    ghost view = { λ t. map meaning t.slots.items };
+    ghost view = { λ t. meanings t.slots.items t.addrs.items };
+
+    ghost invariant = { λ t. length t.addrs.items ≡ length t.slots.items };
 }
 
 impl NameTable {
@@ -70,6 +61,7 @@ impl NameTable {
     {
         Ok(NameTable {
             slots: vec![in alloc; Slot::Unpublished; labels as usize]?,
+            addrs: vec![in alloc; Addr(0); labels as usize]?,
         })
     }
 
@@ -88,7 +80,14 @@ impl NameTable {
         requires unpublished { state_of self.old label.0 ≡ NameState.Unpublished }
         ensures { self.new ≡ slice_set self.old label.0 (NameState.Published value) }
     {
-        self.slots[label.0 as usize] = Slot::published(value);
+        let place = label.0 as usize;
+        match value {
+            Some(addr) => {
+                self.addrs[place] = addr;
+                self.slots[place] = Slot::At;
+            }
+            None => self.slots[place] = Slot::Null,
+        }
     }
 
     /// Takes the value of a label, if it is published.
@@ -98,12 +97,13 @@ impl NameTable {
         ensures not_yet { (result ≡ Taken.NotYet) ↔ (state_of self.old label.0 ≡ NameState.Unpublished) }
         ensures taken { TakesName self.old self.new label.0 result }
     {
-        let value = match self.slots[label.0 as usize] {
-            Slot::At(addr) => Some(addr),
+        let place = label.0 as usize;
+        let value = match self.slots[place] {
+            Slot::At => Some(self.addrs[place]),
             Slot::Null => None,
             Slot::Unpublished | Slot::Taken => return Taken::NotYet,
         };
-        self.slots[label.0 as usize] = Slot::Taken;
+        self.slots[place] = Slot::Taken;
         Taken::Set(value)
     }
 }
