@@ -2,6 +2,7 @@
 use Rattle.std.proofs.Common.{◌≡◌, refl, ℕ, zero, suc, List, [], ◌∷◌, ◌++◌, length, drop, ap, sym, arith, map, ◌+◌, ◌<◌, ◌≤◌, ◌∙◌, true}
 use Rattle.std.specs.Prelude.{Option, Some, None, is_some, slice_get}
 use Rattle.std.proofs.lemmas.List.{drop_all}
+use Rattle.tc_units.specs.Bag.{Contents}
 use Rattle.tc_model.specs.declared.answers.Answered.{Answered}
 use Rattle.tc_model.specs.declared.calls.Call.{Call}
 use Rattle.tc_model.specs.declared.calls.Planned.{Planned}
@@ -9,7 +10,7 @@ use Rattle.call_steps.specs.Local.{Decided}
 use Rattle.call_steps.specs.Calls.{About}
 use Rattle.call_steps.specs.Rows.{undecided, under, without_call}
 use Rattle.call_steps.specs.declared.step.Step.{Step}
-use Rattle.call_steps.specs.Kept.{decided_by, call_at}
+use Rattle.call_steps.specs.Kept.{decided_by, call_at, IsKept}
 
 without : (o : Option Call) → is_some o ≡ true → without_call o ≡ 0
 without None is = absurd (cc)
@@ -21,12 +22,20 @@ module _ {R : Type 0} (about : R → About) where
   undecided_under s is = grind (arith)
 
 -- one answer more decides the call behind those that were answered
-pub decided_more : (script : List Planned) (answers : List Answered) (a : Answered) (call : Call) → call_at script (length answers) ≡ Some call
+decided_more : (script : List Planned) (answers : List Answered) (a : Answered) (call : Call) → call_at script (length answers) ≡ Some call
     → decided_by script (answers ++ a ∷ []) ≡ decided_by script answers ++ record { act = a.act; call = call; answer = a.answer } ∷ []
 decided_more [] [] a call at = absurd (cc)
 decided_more [] (b ∷ bs) a call at = absurd (cc)
 decided_more (p ∷ ps) [] a call at = cc
 decided_more (p ∷ ps) (b ∷ bs) a call at = ap (λ ds. record { act = b.act; call = p.call; answer = b.answer } ∷ ds) (decided_more ps bs a call at)
+
+-- the answer to a call under way that isn't decided
+pub answered_now : {R : Type 0} (about : R → About) (script : List Planned) (place : ℕ) (s : Step R) (answers : Contents Answered) → IsKept about script place s answers
+    → (call : Call) → undecided about s ≡ Some call → (a : Answered)
+    → decided_by script (answers.items ++ a ∷ []) ≡ decided_by script answers.items ++ record { act = a.act; call = call; answer = a.answer } ∷ []
+answered_now about script place s answers kept call is a =
+    let here : length answers.items ≡ place = omega (arith, kept.count, undecided_under about s (ap is_some is)) in
+    decided_more script answers.items a call (ap (call_at script) here ∙ kept.call call is)
 
 -- the decided calls are told by the answers and the script
 pub acts_told : (script : List Planned) (answers : List Answered) → length answers ≤ length script → map (λ (a : Answered). a.act) answers ≡ map (λ (d : Decided). d.act) (decided_by script answers)

@@ -10,8 +10,7 @@ use Rattle.call_steps.specs.declared.step.Target.{Target}
 use Rattle.call_steps.specs.declared.step.Target.TheVariants as target
 use Rattle.call_steps.specs.declared.step.Step.{Step}
 use Rattle.call_steps.specs.declared.step.Step.TheVariants as step
-use Rattle.call_steps.specs.declared.step.MapStep.TheVariants as map
-use Rattle.call_steps.specs.declared.step.Onward.TheVariants as onward
+use Rattle.call_steps.specs.declared.step.NamesStep.TheVariants.{Publish}
 use Rattle.call_steps.specs.Local.{Local, Decided}
 use Rattle.call_steps.specs.Calls.{About}
 use Rattle.call_steps.specs.Rows.{under, IsOf}
@@ -66,6 +65,6 @@ local_of seat script place now regs freed acts answers =
       answers = decided_by script answers;
     }
 
--- the call under way is decided, and nothing is left of it but its end
+-- what stands where the call under way is decided, until the next act takes its place: a step that is small and undecided of no call
 abbrev pub over : {R : Type 0} → Step R
-over = step.Map (map.ClearSpan onward.End)
+over = step.Names (Publish (record { 0 = 0 }) None)

@@ -2,18 +2,18 @@
 //! its answers.
 ghost use Rattle.std.specs.Prelude.{◌≡◌, ℕ, ◌+◌, ◌-◌, ◌<◌, ◌≤◌, ◌^◌, [], length, drop, map, option_map, slice_get, Option, Some, None, IfOk, is_some, true};
 ghost use Rattle.tc_model.specs.declared.calls.Call as call;
-ghost use Rattle.call_steps.specs.Local.{next_call, step_or, first_of_call, regs_of_call, first_act, regs_by, first_local, goes, ends, decided, told};
+ghost use Rattle.call_steps.specs.Local.{next_call, first_of_call, regs_of_call, first_act, regs_by, first_local, goes, ends, decided, told};
 ghost use Rattle.call_steps.specs.Rows.{undecided, under, IsOf};
 ghost use Rattle.call_steps.specs.Kept.{target_at, IsLowWant, over};
 
 use crate::front::FrontEnd;
 use crate::setting::Setting;
-use crate::step::{Asking, HeapStep, MapStep, NamesStep, Next, Onward, ShardStep, Step, Target};
+use crate::step::{Asking, HeapStep, NamesStep, Next, ShardStep, Step, Target};
 use rseq_core::{HAND_ROOM, Regs};
 use std::alloc::{AllocError, Global};
 use std::marker::Model;
 use tc_model::{Answer, Answered, Call, CallLine, Planned, Script};
-use tc_units::{Bag, Listed, SpanRef, ThreadNo};
+use tc_units::{Bag, Label, Listed, SpanRef, ThreadNo};
 
 /// A thread's script, its place in it, the next act of the call there with what the call has in hand, and
 /// the answers of the calls that were decided.
@@ -63,9 +63,9 @@ impl<F: FrontEnd> Local<F> {
         let freed = Bag::open(alloc, HAND_ROOM)?;
         let mut regs = Regs::open(alloc, thread)?;
         let mut seat = F::seat(setting, thread);
+        let mut step = Step::Ended;
         let first = calls.as_slice().first().copied();
-        F::begin(setting, &mut seat, first);
-        let step = first_act::<F>(setting, &seat, &mut regs, first);
+        begin::<F>(setting, first, &mut seat, &mut regs, &mut step);
         Ok(Local {
             seat,
             script: calls,
@@ -190,7 +190,7 @@ impl<F: FrontEnd> Local<F> {
         self.end(setting);
     }
 
-    /// The next act decides the call under way, of which nothing is left to do then but to end.
+    /// The next act decides the call under way. What stands as its step then says nothing: the caller puts the next one there.
     pub(crate) fn decide(&mut self, answer: Answer)
         requires { is_some (undecided F.about self.old.step) ≡ true }
         ensures step { self.new.step ≡ over }
@@ -202,18 +202,27 @@ impl<F: FrontEnd> Local<F> {
             act: self.acts,
             answer,
         });
-        self.step = Step::Map(MapStep::ClearSpan(Onward::End));
+        self.step = Step::Names(NamesStep::Publish {
+            label: Label(0),
+            value: None,
+        });
     }
 
     /// The call under way has ended, and the thread comes to the next one.
+    #[inline(always)]
     fn come_to_next(&mut self, setting: &Setting)
         requires { under F.about self.old.step ≡ 1 }
         ensures { self.new ≡ next_call (F.rules setting.now).calls (record self.old { ended = self.old.ended + 1 }) self.old.rest }
     {
         self.place += 1;
         let planned = planned_at(self.script.as_slice(), self.place);
-        F::begin(setting, &mut self.seat, planned);
-        self.step = first_act::<F>(setting, &self.seat, &mut self.regs, planned);
+        begin::<F>(
+            setting,
+            planned,
+            &mut self.seat,
+            &mut self.regs,
+            &mut self.step,
+        );
     }
 }
 
@@ -224,66 +233,63 @@ fn planned_at(script: &[Planned], place: usize) -> Option<Planned>
     script.get(place).copied()
 }
 
-/// The first act of the call that is planned next, for which the registers are set.
+/// The call that is planned next begins: its first act stands where the last one of the call before it stood, and the registers
+/// are set for it.
 #[inline(always)]
-fn first_act<F: FrontEnd>(
+fn begin<F: FrontEnd>(
     setting: &Setting,
-    seat: &F::Seat,
-    regs: &mut Regs,
     planned: Option<Planned>,
-) -> Step<F::Row>
-    ensures step { result ≡ first_act (F.rules setting.now).calls seat.now planned }
+    seat: &mut F::Seat,
+    regs: &mut Regs,
+    step: &mut Step<F::Row>,
+)
+    ensures seat { seat.new ≡ (F.rules setting.now).calls.begins seat.old planned }
+    ensures step { step.new ≡ first_act (F.rules setting.now).calls seat.new planned }
     ensures regs { regs.new ≡ regs_by (F.rules setting.now).calls planned regs.old }
-    ensures of { IsOf F.about result (option_map (λ p. p.call) planned) }
-    ensures none { under F.about result ≡ 0 }
+    ensures of { IsOf F.about step.new (option_map (λ p. p.call) planned) }
+    ensures none { under F.about step.new ≡ 0 }
 {
+    F::begin(setting, seat, planned);
     match planned {
         Some(planned) => {
-            let step = first_of_call::<F>(setting, seat, regs, planned.call);
+            begin_call::<F>(setting, seat, regs, step, planned.call);
             regs.ran = 0;
-            step
         }
-        None => Step::Ended,
+        None => *step = Step::Ended,
     }
 }
 
-/// The first act of a call, for whose class the registers are set, where it has one.
-fn first_of_call<F: FrontEnd>(
+/// The first act of a call, for whose class the registers are set, where it has one. It is put where the last act stands, since
+/// a step is large.
+fn begin_call<F: FrontEnd>(
     setting: &Setting,
     seat: &F::Seat,
     regs: &mut Regs,
+    step: &mut Step<F::Row>,
     call: Call,
-) -> Step<F::Row>
-    ensures step { result ≡ first_of_call (F.rules setting.now).calls seat.now call }
+)
+    ensures step { step.new ≡ first_of_call (F.rules setting.now).calls seat.now call }
     ensures regs { regs.new ≡ regs_of_call (F.rules setting.now).calls call regs.old }
-    ensures of { IsOf F.about result (Some call) }
-    ensures none { under F.about result ≡ 0 }
+    ensures of { IsOf F.about step.new (Some call) }
+    ensures none { under F.about step.new ≡ 0 }
 {
     match call {
         Call::Malloc { label, size } => match setting.table.class_of(size) {
             Some(class) => {
                 regs.class = class;
                 let asking = Asking { label, size };
-                let row = F::first(setting, seat, regs, asking);
-                step_or(Step::Shard(ShardStep::Fetch(asking)), row)
+                match F::first(setting, seat, regs, asking) {
+                    Some(row) => *step = Step::Front(row),
+                    None => *step = Step::Shard(ShardStep::Fetch(asking)),
+                }
             }
-            None => Step::Heap(HeapStep::New { label, size }),
+            None => *step = Step::Heap(HeapStep::New { label, size }),
         },
-        Call::Free { label } => Step::Names(NamesStep::Take { label }),
-        Call::Release { pages } => Step::Heap(HeapStep::Unback { pages }),
-        Call::Drain { .. } | Call::Resize { .. } => step_or(
-            Step::Ended,
-            F::other(setting, seat, regs, call),
-        ),
-    }
-}
-
-/// A step of the front-end where it has a row, and else another one.
-fn step_or<R: Copy>(other: Step<R>, row: Option<R>) -> Step<R>
-    ensures { result ≡ step_or other row }
-{
-    match row {
-        Some(row) => Step::Front(row),
-        None => other,
+        Call::Free { label } => *step = Step::Names(NamesStep::Take { label }),
+        Call::Release { pages } => *step = Step::Heap(HeapStep::Unback { pages }),
+        Call::Drain { .. } | Call::Resize { .. } => match F::other(setting, seat, regs, call) {
+            Some(row) => *step = Step::Front(row),
+            None => *step = Step::Ended,
+        },
     }
 }
