@@ -4,6 +4,14 @@ use Rattle.std.proofs.lemmas.List.{get_or-map}
 use Rattle.tc_units.specs.declared.spans.ClassRow.{ClassRow}
 use Rattle.size_classes.specs.Rows.{IsRow, AreRows, sizes_of}
 
+-- a row that says nothing
+abbrev pub no_row : ClassRow
+no_row = record { size = 0; pages = 0; batch = 0 }
+
+-- the size at a place
+pub size_at : (rows : List ClassRow) (i : ℕ) → i < length rows → get_or (sizes_of rows) i 0 ≡ (get_or rows i no_row).size
+size_at rows i within = get_or-map (λ (r : ClassRow). r.size) rows i no_row 0 within
+
 -- the size at the place of a row
 pub size_read : (rows : List ClassRow) (i : ℕ) (row : ClassRow) → i < length rows → row ≡ get_or rows i row
     → get_or (sizes_of rows) i 0 ≡ row.size

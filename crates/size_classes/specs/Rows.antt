@@ -1,7 +1,9 @@
 -- The rules of the rows of a class table.
-use Rattle.std.specs.Prelude.{◌≡◌, ℕ, ◌*◌, ◌%◌, ◌<◌, ◌≤◌, List, [], ◌∷◌, length, map}
+use Rattle.std.specs.Prelude.{◌≡◌, ℕ, ◌*◌, ◌%◌, ◌<◌, ◌≤◌, List, [], ◌∷◌, length, map, slice_get}
 use Rattle.tc_units.specs.Units.{page_bytes}
+use Rattle.tc_units.specs.Classes.{class_of}
 use Rattle.tc_units.specs.declared.spans.ClassRow.{ClassRow}
+use Rattle.tc_units.specs.declared.units.Class.{Class}
 
 -- the rules of one row alone
 pub record IsRow (row : ClassRow) : Type 0 where
@@ -28,3 +30,7 @@ pub record IsTable (rows : List ClassRow) : Type 0 where
 -- the sizes of the rows
 abbrev pub sizes_of : List ClassRow → List ℕ
 sizes_of rows = map (λ (row : ClassRow). row.size) rows
+
+-- the classes of the multiples of 8 bytes, from 0 on, as far as they have one
+abbrev pub AreClasses : List ClassRow → List Class → Type 0
+AreClasses rows classes = (k : ℕ) → slice_get classes k ≡ class_of rows (8 * k)

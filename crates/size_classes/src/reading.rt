@@ -48,7 +48,10 @@ impl ClassTable {
                 why: RowWhy::Empty,
             });
         }
-        Ok(ClassTable::new(rows))
+        match ClassTable::new(alloc, rows) {
+            Ok(table) => Ok(table),
+            Err(_) => Err(TableFault::Memory),
+        }
     }
 }
 

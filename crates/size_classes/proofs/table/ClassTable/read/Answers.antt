@@ -45,12 +45,12 @@ returns-then-is_empty-clause-fault c =
     let none : length c.records.rows.items ≡ 0 = grind (arith, common_steps) in
     going_empty c.args.bytes.now _ c.read_byte_record.new.self _ _ _ so reads none
 
-pub returns-clause-table : goal.returns-clause-table
-returns-clause-table c =
+pub returns-in-Ok-new-clause-table : goal.returns-in-Ok-new-clause-table
+returns-in-Ok-new-clause-table c =
     let so = c.records.invariant in
     let fields : List (List ℕ) = fields_of c.read_byte_record.new.row in
     let reads : ReadRecord told c.records.reader c.read_byte_record.new.self false fields =
     subst (λ (t : Bool). ReadRecord told c.records.reader c.read_byte_record.new.self t fields) c.in-Ok-false.field-0-test
     (c.in-Ok-false.ensures.reads so.unread.plain so.unread.ready) in
     let some : 0 < length c.records.rows.items = grind (arith, common_steps) in
-    going_end c.args.bytes.now _ c.read_byte_record.new.self _ _ _ so reads some ∙ ap (λ (rows : List ClassRow). Ok rows) (sym c.new-2.ensures)
+    going_end c.args.bytes.now _ c.read_byte_record.new.self _ _ _ so reads some ∙ ap (λ (rows : List ClassRow). Ok rows) (sym c.in-Ok-new.ensures)
