@@ -1,7 +1,8 @@
 -- The first field of a line, and the first line of a text.
 use Rattle.std.proofs.Common.{◌≡◌, ℕ, ◌+◌, ◌-◌, ◌<◌, ◌≤◌, ◌⊎◌, min, Bool, true, false, List, [], ◌∷◌, length, get_or, take, drop, map, refl, sym, ap, ◌∙◌, arith, cond, not, None, inl, inr}
 use Rattle.std.proofs.lemmas.Bool.{cases_lt, ne_eqb, le-leb, lt-leb, eqb-true}
-use Rattle.std.proofs.lemmas.List.{take_all, drop_all, take-take, length-take-le, length-drop, get_or-take, get_or-drop, drop_min, drop-drop}
+use Rattle.std.proofs.lemmas.List.{take_all, take-append-drop, drop_all, take-take, length-take-le, length-drop, get_or-take, get_or-drop, drop_min, drop-drop}
+use Rattle.std.proofs.lemmas.List.Folds.{prefix_len-append}
 use Rattle.std.proofs.lemmas.List.Sums.{fails_before_first, passes_at_first, prefix_len-le-length}
 use Rattle.std.proofs.lemmas.List.Splits.{slice_split_first, slice_split_none, length-slice_split, join_with_byte-slice_split}
 use Rattle.std.proofs.lemmas.List.Edits.{between_none, length-between, get_or-between}
@@ -14,6 +15,10 @@ use Rattle.trace_text.proofs.Ranges.{drop-slice_range, take-drop, slice_range_on
 -- all bytes where `position` tells no place
 pub position_missing : (p : ℕ → Bool) (xs : List ℕ) → position p xs ≡ None → length xs ≡ position_or_len p xs
 position_missing p xs h = grind (arith, nat_tests, prefix_len-le-length)
+
+-- a place in the first n elements is the place in all of them
+pub position_in_front : (p : ℕ → Bool) (xs : List ℕ) (n place : ℕ) → n ≤ length xs → place ≡ position_or_len p (take n xs) → place < n → place ≡ position_or_len p xs
+position_in_front p xs n place within is inside = grind (arith, nat_tests, prefix_len-append (λ x. not (p x)) (take n xs) (drop n xs), length-take-le n xs within, take-append-drop n xs)
 
 -- the fields of a line: what stands before its first space, and the fields behind that
 fields_of-first : (line : List ℕ) (n : ℕ) → n ≡ position_or_len is_space line → n < length line → fields_of line ≡ take n line ∷ fields_of (drop (n + 1) line)

@@ -3,7 +3,7 @@ ghost use Rattle.std.specs.Prelude.{◌≡◌, ◌+◌, ◌-◌, ◌^◌, ◌<�
 ghost use Rattle.trace_text.specs.Lines.{lines_of, without_return};
 
 use crate::fields::Fields;
-use crate::search::length_before;
+use crate::search::length_before_near;
 use std::marker::Model;
 
 /// The lines of a text that are left. A line ends before a line feed, and the last one may lack it. A
@@ -75,7 +75,7 @@ impl<'a> Lines<'a> {
             return None;
         }
         let rest = &self.text[self.start..];
-        let length = length_before(rest, b'\n');
+        let length = length_before_near(rest, b'\n');
         let end = self.start + length_without_return(&rest[..length]);
         self.given += 1;
         let line = Fields::new(self.text, self.given, self.start, end);
