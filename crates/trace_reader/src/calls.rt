@@ -69,7 +69,7 @@ impl Calls {
     {
         let place = label as usize;
         if place >= self.uses.len() {
-            self.uses.resize(place + 1, LabelUse::New)?;
+            self.uses.resize(2 * place + 1, LabelUse::New)?;
         }
         self.uses[place] = now;
         Ok(())

@@ -74,6 +74,7 @@ pub fn read_place(field: &[u8]) -> Option<u64>
 }
 
 /// The one field that is left. `None` exactly where another number of them is left.
+#[inline(always)]
 fn one<'a>(fields: &mut Fields<'a>) -> Option<&'a [u8]>
     ensures { MatchOption result (length fields.old.fields ≢ 1) (λ a. fields.old.fields ≡ a.now ∷ []) }
 {
@@ -85,6 +86,7 @@ fn one<'a>(fields: &mut Fields<'a>) -> Option<&'a [u8]>
 }
 
 /// The two fields that are left.
+#[inline(always)]
 fn two<'a>(fields: &mut Fields<'a>) -> Option<(&'a [u8], &'a [u8])>
     ensures { MatchOption result (length fields.old.fields ≢ 2) (λ f. fields.old.fields ≡ f.0.now ∷ f.1.now ∷ []) }
 {
@@ -94,6 +96,7 @@ fn two<'a>(fields: &mut Fields<'a>) -> Option<(&'a [u8], &'a [u8])>
 }
 
 /// The three fields that are left.
+#[inline(always)]
 fn three<'a>(fields: &mut Fields<'a>) -> Option<(&'a [u8], &'a [u8], &'a [u8])>
     ensures { MatchOption result (length fields.old.fields ≢ 3) (λ f. fields.old.fields ≡ f.0.now ∷ f.1.now ∷ f.2.now ∷ []) }
 {
@@ -103,6 +106,7 @@ fn three<'a>(fields: &mut Fields<'a>) -> Option<(&'a [u8], &'a [u8], &'a [u8])>
 }
 
 /// The four fields that are left.
+#[inline(always)]
 fn four<'a>(fields: &mut Fields<'a>) -> Option<(&'a [u8], &'a [u8], &'a [u8], &'a [u8])>
     ensures { MatchOption result (length fields.old.fields ≢ 4) (λ f. fields.old.fields ≡ f.0.now ∷ f.1.now ∷ f.2.now ∷ f.3.now ∷ []) }
 {

@@ -198,10 +198,10 @@ impl Reader {
         ensures added { OnOk result (so_far self.new ≡ with_form line form (so_far self.old)) }
         ensures reading { OnOk result (IsReading self.new) }
     {
-        match form {
+        let (thread, call) = match form {
             Form::Head { head, value } => {
                 self.config.set(head, value);
-                Ok(())
+                return Ok(());
             }
             Form::Move {
                 thread,
@@ -213,7 +213,7 @@ impl Reader {
                     cpu: CpuNo(cpu as u8),
                 });
                 self.late = true;
-                Ok(())
+                return Ok(());
             }
             Form::Malloc {
                 thread,
@@ -221,16 +221,16 @@ impl Reader {
                 size,
             } => {
                 let label = Label(label as u32);
-                self.call(line, thread, Call::Malloc { label, size })
+                (thread, Call::Malloc { label, size })
             }
             Form::Free { thread, label } => {
                 let label = Label(label as u32);
-                self.call(line, thread, Call::Free { label })
+                (thread, Call::Free { label })
             }
-            Form::Release { thread, pages } => self.call(line, thread, Call::Release { pages }),
+            Form::Release { thread, pages } => (thread, Call::Release { pages }),
             Form::Drain { thread, cpu } => {
                 let cpu = CpuNo(cpu as u8);
-                self.call(line, thread, Call::Drain { cpu })
+                (thread, Call::Drain { cpu })
             }
             Form::Resize {
                 thread,
@@ -243,9 +243,10 @@ impl Reader {
                     class: Class(class as u8),
                     cap: cap as u32,
                 };
-                self.call(line, thread, resize)
+                (thread, resize)
             }
-        }
+        };
+        self.call(line, thread, call)
     }
 
     /// Reads one line by its rules, in their order.
