@@ -3,3 +3,4 @@ pub mod Verdicts
 pub mod Keeps
 pub mod Valids
 pub mod Picked
+pub mod Values

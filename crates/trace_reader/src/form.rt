@@ -1,8 +1,7 @@
 //! What a line of a trace says.
-ghost use Rattle.std.specs.Prelude.{◌≡◌, ◌≢◌, ◌≤◌, [], ◌∷◌, length, IfOk, IfSome, MatchOption};
-ghost use Rattle.std.specs.Option.{ok_or};
+ghost use Rattle.std.specs.Prelude.{◌≡◌, ◌≢◌, ◌==◌, ◌<◌, ◌≤◌, ◌^◌, [], drop, length, slice_get, option_and_then, IfOk, IfSome, MatchOption};
 ghost use Rattle.trace_reader.specs.Words.{from_to, place};
-ghost use Rattle.trace_reader.specs.Form.{number_in, form_of, read_fields, IsReadAs};
+ghost use Rattle.trace_reader.specs.Form.{number_in, has_fields, form_of, read_fields, IsReadAs};
 ghost use Rattle.trace_reader.specs.declared.word.Word.TheVariants as word;
 
 use crate::limits::{
@@ -73,64 +72,59 @@ pub fn read_place(field: &[u8]) -> Option<u64>
     read_number(field, 0, MOST_PLACE)
 }
 
-/// The one field that is left. `None` exactly where another number of them is left.
+/// The number of the next field, from `least` to `most`.
 #[inline(always)]
-fn one<'a>(fields: &mut Fields<'a>) -> Option<&'a [u8]>
-    ensures { MatchOption result (length fields.old.fields ≢ 1) (λ a. fields.old.fields ≡ a.now ∷ []) }
+fn next_number(fields: &mut Fields, least: u64, most: u64) -> Option<u64>
+    requires { most < 2 ^ 60 }
+    ensures number { result ≡ option_and_then (number_in (from_to least most)) (slice_get fields.old.fields 0) }
+    ensures others { IfSome result (λ _. fields.new.fields ≡ drop 1 fields.old.fields) }
+    ensures range { IfSome result (λ n. (least ≤ n) × (n ≤ most)) }
 {
-    let a = fields.next()?;
+    fields.number(most).filter(|n| *n >= least)
+}
+
+/// The number of the next field, of a thread, a CPU or a class.
+#[inline(always)]
+fn next_place(fields: &mut Fields) -> Option<u64>
+    ensures number { result ≡ option_and_then (number_in place) (slice_get fields.old.fields 0) }
+    ensures others { IfSome result (λ _. fields.new.fields ≡ drop 1 fields.old.fields) }
+    ensures range { IfSome result (λ n. n ≤ MOST_PLACE) }
+{
+    next_number(fields, 0, MOST_PLACE)
+}
+
+/// `Some` exactly where no field is left.
+#[inline(always)]
+fn end(fields: &mut Fields) -> Option<()>
+    ensures { MatchOption result (fields.old.fields ≢ []) (λ _. fields.old.fields ≡ []) }
+{
     match fields.next() {
-        None => Some(a.bytes),
+        None => Some(()),
         Some(_) => None,
     }
 }
 
-/// The two fields that are left.
-#[inline(always)]
-fn two<'a>(fields: &mut Fields<'a>) -> Option<(&'a [u8], &'a [u8])>
-    ensures { MatchOption result (length fields.old.fields ≢ 2) (λ f. fields.old.fields ≡ f.0.now ∷ f.1.now ∷ []) }
-{
-    let a = fields.next()?;
-    let b = one(fields)?;
-    Some((a.bytes, b))
-}
-
-/// The three fields that are left.
-#[inline(always)]
-fn three<'a>(fields: &mut Fields<'a>) -> Option<(&'a [u8], &'a [u8], &'a [u8])>
-    ensures { MatchOption result (length fields.old.fields ≢ 3) (λ f. fields.old.fields ≡ f.0.now ∷ f.1.now ∷ f.2.now ∷ []) }
-{
-    let a = fields.next()?;
-    let (b, c) = two(fields)?;
-    Some((a.bytes, b, c))
-}
-
-/// The four fields that are left.
-#[inline(always)]
-fn four<'a>(fields: &mut Fields<'a>) -> Option<(&'a [u8], &'a [u8], &'a [u8], &'a [u8])>
-    ensures { MatchOption result (length fields.old.fields ≢ 4) (λ f. fields.old.fields ≡ f.0.now ∷ f.1.now ∷ f.2.now ∷ f.3.now ∷ []) }
-{
-    let a = fields.next()?;
-    let (b, c, d) = three(fields)?;
-    Some((a.bytes, b, c, d))
-}
-
-fn head_with(head: Head, value: &[u8]) -> Option<Form>
-    ensures form { result ≡ form_of (word.Head head) (value.now ∷ []) }
+#[tactic(auto, using(crate::proofs::Values::head_most, crate::proofs::Values::numbers_next))]
+fn head(fields: &mut Fields, head: Head) -> Option<Form>
+    ensures form { result ≡ form_of (word.Head head) fields.old.fields }
     ensures range { IfSome result (IsReadAs (word.Head head)) }
 {
     let rule = head.rule();
-    let value = read_number(value, rule.least, rule.most)?;
+    let value = next_number(fields, rule.least, rule.most)?;
+    end(fields)?;
     Some(Form::Head { head, value })
 }
 
-fn malloc_with(thread: &[u8], label: &[u8], size: &[u8]) -> Option<Form>
-    ensures form { result ≡ form_of word.Malloc (thread.now ∷ label.now ∷ size.now ∷ []) }
+#[inline(always)]
+#[tactic(auto, using(crate::proofs::Values::numbers_next))]
+fn malloc(fields: &mut Fields) -> Option<Form>
+    ensures form { result ≡ form_of word.Malloc fields.old.fields }
     ensures range { IfSome result (IsReadAs word.Malloc) }
 {
-    let thread = read_place(thread)?;
-    let label = read_number(label, 0, MOST_LABELS - 1)?;
-    let size = read_number(size, 0, MOST_SIZE)?;
+    let thread = next_place(fields)?;
+    let label = next_number(fields, 0, MOST_LABELS - 1)?;
+    let size = next_number(fields, 0, MOST_SIZE)?;
+    end(fields)?;
     Some(Form::Malloc {
         thread,
         label,
@@ -138,22 +132,27 @@ fn malloc_with(thread: &[u8], label: &[u8], size: &[u8]) -> Option<Form>
     })
 }
 
-fn free_with(thread: &[u8], label: &[u8]) -> Option<Form>
-    ensures form { result ≡ form_of word.Free (thread.now ∷ label.now ∷ []) }
+#[inline(always)]
+#[tactic(auto, using(crate::proofs::Values::numbers_next))]
+fn free(fields: &mut Fields) -> Option<Form>
+    ensures form { result ≡ form_of word.Free fields.old.fields }
     ensures range { IfSome result (IsReadAs word.Free) }
 {
-    let thread = read_place(thread)?;
-    let label = read_number(label, 0, MOST_LABELS - 1)?;
+    let thread = next_place(fields)?;
+    let label = next_number(fields, 0, MOST_LABELS - 1)?;
+    end(fields)?;
     Some(Form::Free { thread, label })
 }
 
-fn move_with(thread: &[u8], before: &[u8], cpu: &[u8]) -> Option<Form>
-    ensures form { result ≡ form_of word.Move (thread.now ∷ before.now ∷ cpu.now ∷ []) }
+#[tactic(auto, using(crate::proofs::Values::numbers_next))]
+fn preemption(fields: &mut Fields) -> Option<Form>
+    ensures form { result ≡ form_of word.Move fields.old.fields }
     ensures range { IfSome result (IsReadAs word.Move) }
 {
-    let thread = read_place(thread)?;
-    let before = read_number(before, 1, MOST_BEFORE)?;
-    let cpu = read_place(cpu)?;
+    let thread = next_place(fields)?;
+    let before = next_number(fields, 1, MOST_BEFORE)?;
+    let cpu = next_place(fields)?;
+    end(fields)?;
     Some(Form::Move {
         thread,
         before,
@@ -161,32 +160,38 @@ fn move_with(thread: &[u8], before: &[u8], cpu: &[u8]) -> Option<Form>
     })
 }
 
-fn release_with(thread: &[u8], pages: &[u8]) -> Option<Form>
-    ensures form { result ≡ form_of word.Release (thread.now ∷ pages.now ∷ []) }
+#[tactic(auto, using(crate::proofs::Values::numbers_next))]
+fn release(fields: &mut Fields) -> Option<Form>
+    ensures form { result ≡ form_of word.Release fields.old.fields }
     ensures range { IfSome result (IsReadAs word.Release) }
 {
-    let thread = read_place(thread)?;
-    let pages = read_number(pages, 0, MOST_RELEASED)?;
+    let thread = next_place(fields)?;
+    let pages = next_number(fields, 0, MOST_RELEASED)?;
+    end(fields)?;
     Some(Form::Release { thread, pages })
 }
 
-fn drain_with(thread: &[u8], cpu: &[u8]) -> Option<Form>
-    ensures form { result ≡ form_of word.Drain (thread.now ∷ cpu.now ∷ []) }
+#[tactic(auto, using(crate::proofs::Values::numbers_next))]
+fn drain(fields: &mut Fields) -> Option<Form>
+    ensures form { result ≡ form_of word.Drain fields.old.fields }
     ensures range { IfSome result (IsReadAs word.Drain) }
 {
-    let thread = read_place(thread)?;
-    let cpu = read_place(cpu)?;
+    let thread = next_place(fields)?;
+    let cpu = next_place(fields)?;
+    end(fields)?;
     Some(Form::Drain { thread, cpu })
 }
 
-fn resize_with(thread: &[u8], cpu: &[u8], class: &[u8], cap: &[u8]) -> Option<Form>
-    ensures form { result ≡ form_of word.Resize (thread.now ∷ cpu.now ∷ class.now ∷ cap.now ∷ []) }
+#[tactic(auto, using(crate::proofs::Values::numbers_next))]
+fn resize(fields: &mut Fields) -> Option<Form>
+    ensures form { result ≡ form_of word.Resize fields.old.fields }
     ensures range { IfSome result (IsReadAs word.Resize) }
 {
-    let thread = read_place(thread)?;
-    let cpu = read_place(cpu)?;
-    let class = read_place(class)?;
-    let cap = read_number(cap, 0, MOST_CAPACITY)?;
+    let thread = next_place(fields)?;
+    let cpu = next_place(fields)?;
+    let class = next_place(fields)?;
+    let cap = next_number(fields, 0, MOST_CAPACITY)?;
+    end(fields)?;
     Some(Form::Resize {
         thread,
         cpu,
@@ -195,40 +200,56 @@ fn resize_with(thread: &[u8], cpu: &[u8], class: &[u8], cap: &[u8]) -> Option<Fo
     })
 }
 
+/// What a word says with the fields behind it, where they are as many as it wants, each a number in its range.
+fn form_with(word: Word, fields: &mut Fields) -> Option<Form>
+    ensures form { result ≡ form_of word fields.old.fields }
+    ensures range { IfSome result (IsReadAs word) }
+{
+    match word {
+        Word::Head(name) => head(fields, name),
+        Word::Malloc => malloc(fields),
+        Word::Free => free(fields),
+        Word::Move => preemption(fields),
+        Word::Release => release(fields),
+        Word::Drain => drain(fields),
+        Word::Resize => resize(fields),
+    }
+}
+
+/// Whether so many fields are left.
+fn are_left(fields: &mut Fields, count: u8) -> bool
+    ensures { result ≡ (length fields.old.fields == count) }
+{
+    for _field in 0..count {
+        if fields.next().is_none() {
+            return false;
+        }
+    }
+    fields.next().is_none()
+}
+
+/// Whether the fields behind a word are as many as it wants.
+fn has_fields(word: Word, fields: &mut Fields) -> bool
+    ensures { result ≡ has_fields word fields.old.fields }
+{
+    let count = match word {
+        Word::Head(_) => 1,
+        Word::Free | Word::Release | Word::Drain => 2,
+        Word::Malloc | Word::Move => 3,
+        Word::Resize => 4,
+    };
+    are_left(fields, count)
+}
+
 /// What a word says with the fields behind it, by the rules `Fields` and `Number`.
 pub fn read_form(word: Word, fields: &mut Fields) -> Result<Form, LineWhy>
     ensures form { result ≡ read_fields word fields.old.fields }
     ensures range { IfOk result (IsReadAs word) }
 {
-    let form = match word {
-        Word::Head(head) => {
-            let value = one(fields).ok_or(LineWhy::Fields)?;
-            head_with(head, value)
-        }
-        Word::Malloc => {
-            let (thread, label, size) = three(fields).ok_or(LineWhy::Fields)?;
-            malloc_with(thread, label, size)
-        }
-        Word::Free => {
-            let (thread, label) = two(fields).ok_or(LineWhy::Fields)?;
-            free_with(thread, label)
-        }
-        Word::Move => {
-            let (thread, before, cpu) = three(fields).ok_or(LineWhy::Fields)?;
-            move_with(thread, before, cpu)
-        }
-        Word::Release => {
-            let (thread, pages) = two(fields).ok_or(LineWhy::Fields)?;
-            release_with(thread, pages)
-        }
-        Word::Drain => {
-            let (thread, cpu) = two(fields).ok_or(LineWhy::Fields)?;
-            drain_with(thread, cpu)
-        }
-        Word::Resize => {
-            let (thread, cpu, class, cap) = four(fields).ok_or(LineWhy::Fields)?;
-            resize_with(thread, cpu, class, cap)
-        }
-    };
-    form.ok_or(LineWhy::Number)
+    let mut all = fields.again();
+    match form_with(word, fields) {
+        Some(form) => Ok(form),
+        None if has_fields(word, &mut all) => Err(LineWhy::Number),
+        None => Err(LineWhy::Fields),
+    }
 }

@@ -3,3 +3,4 @@ pub mod Cuts
 pub mod Joins
 pub mod Decimals
 pub mod Printed
+pub mod Numbers

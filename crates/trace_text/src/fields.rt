@@ -1,5 +1,8 @@
 //! The fields of one line.
-ghost use Rattle.std.specs.Prelude.{◌≡◌, ◌≢◌, ◌+◌, ◌-◌, [], ◌∷◌, length, slice_index, slice_range, MatchOption, IfSome, IfNone};
+ghost use Rattle.std.specs.Prelude.{◌≡◌, ◌≢◌, ◌+◌, ◌-◌, ◌*◌, ◌^◌, ◌<◌, ◌≤◌, ◌&&◌, [], ◌∷◌, Some, None, if◌then◌else◌, length, nat_le, option_map, slice_index, slice_range, take, MatchOption, IfSome, IfNone};
+ghost use Rattle.std.specs.List.{position_or_len};
+ghost use Rattle.tc_units.specs.Decimal.{is_digit, number_of};
+ghost use Rattle.trace_text.specs.Lines.{is_space};
 
 use crate::search::length_before;
 use std::marker::Model;
@@ -32,8 +35,48 @@ impl<'a> Model for Fields<'a> {
     ghost invariant = { λ f. (f.start ≤ f.end + 1) × (f.end ≤ length f.text.now) };
 }
 
+/// The number with one more digit. `None` exactly where the byte is no digit or the number is above `most`.
+fn with_digit(value: u64, byte: u8, most: u64) -> Option<u64>
+    requires within { value ≤ most }
+    requires small { most < 2 ^ 60 }
+    ensures { result ≡ (if is_digit byte && nat_le (10 * value + (byte - 48)) most then Some (10 * value + (byte - 48)) else None) }
+{
+    if !byte.is_ascii_digit() {
+        return None;
+    }
+    let more = 10 * value + u64::from(byte - b'0');
+    if more > most {
+        return None;
+    }
+    Some(more)
+}
+
+/// The number of the first field of a line's rest, and how many bytes that field has. `None` exactly where it is no
+/// canonical decimal of at most `most`.
+fn first_number(rest: &[u8], most: u64) -> Option<(u64, usize)>
+    requires { most < 2 ^ 60 }
+    ensures number { option_map (λ n. n.0) result ≡ number_of most (take (position_or_len is_space rest.now) rest.now) }
+    ensures length { IfSome result (λ n. n.1 ≡ position_or_len is_space rest.now) }
+{
+    let mut value = 0;
+    let mut length = 0;
+    for byte in rest {
+        match with_digit(value, *byte, most) {
+            Some(more) => value = more,
+            None if *byte == b' ' => break,
+            None => return None,
+        }
+        length += 1;
+    }
+    if length == 0 || (length > 1 && rest[0] == b'0') {
+        return None;
+    }
+    Some((value, length))
+}
+
 impl<'a> Fields<'a> {
-    ghost use Rattle.std.specs.Prelude.{◌≡◌, ◌≤◌, slice_range};
+    ghost use Rattle.std.specs.Prelude.{◌≡◌, ◌^◌, ◌<◌, ◌≤◌, drop, option_and_then, slice_get, slice_range};
+    ghost use Rattle.tc_units.specs.Decimal.{number_of};
     ghost use Rattle.trace_text.specs.Lines.{fields_of};
 
     /// The fields of the line with this number that stands from `start` to `end`.
@@ -55,6 +98,13 @@ impl<'a> Fields<'a> {
         ensures { result ≡ self.now.line }
     {
         self.line
+    }
+
+    /// The same fields, to be read once more.
+    pub fn again(&self) -> Self
+        ensures { result ≡ self.now }
+    {
+        Fields { ..*self }
     }
 
     /// The next field. `None` exactly where none is left.
@@ -80,5 +130,21 @@ impl<'a> Fields<'a> {
         };
         self.start += bytes.len() + 1;
         Some(field)
+    }
+
+    /// The number of the next field. `None` exactly where none is left or it is no canonical decimal of at
+    /// most `most`; what is left then isn't told.
+    pub fn number(&mut self, most: u64) -> Option<u64>
+        requires { most < 2 ^ 60 }
+        ensures number { result ≡ option_and_then (number_of most) (slice_get self.old.fields 0) }
+        ensures others { IfSome result (λ _. self.new.fields ≡ drop 1 self.old.fields) }
+        ensures same { (self.new.text ≡ self.old.text) × (self.new.line ≡ self.old.line) × (self.new.end ≡ self.old.end) }
+    {
+        if self.start > self.end {
+            return None;
+        }
+        let (value, length) = first_number(&self.text[self.start..self.end], most)?;
+        self.start += length + 1;
+        Some(value)
     }
 }

@@ -49,10 +49,35 @@ fn cuts(rt: HostRuntime) -> Result<(), Fail> {
             b"a  b \n\nc".as_slice(),
             b"1@0[a]1@2[]1@3[b]1@5[]2@6[]3@7[c]".as_slice(),
         ),
+        (
+            b"a first line\na_line_of_more_than_one_block_of_bytes\n".as_slice(),
+            b"1@0[a]1@2[first]1@8[line]2@13[a_line_of_more_than_one_block_of_bytes]".as_slice(),
+        ),
     ] {
         assert_eq!(rt; cut(rt.alloc(), text)?.as_slice(), cuts, "at {text:?}");
     }
     Ok(())
+}
+
+#[test]
+fn numbers_that_are_cut(rt: HostRuntime) {
+    for (text, first, second) in [
+        (b"70 99".as_slice(), Some(70), Some(99)),
+        (b"0 ".as_slice(), Some(0), None),
+        (b"100 7".as_slice(), None, None),
+        (b"07".as_slice(), None, None),
+        (b"7x".as_slice(), None, None),
+        (b"7 8\n9".as_slice(), Some(7), Some(8)),
+    ] {
+        if let Some(mut line) = Lines::new(text).next() {
+            let mut again = line.again();
+            assert_eq!(rt; line.number(99), first, "at {text:?}");
+            assert_eq!(rt; again.number(99), first, "at {text:?}");
+            if first.is_some() {
+                assert_eq!(rt; line.number(99), second, "at {text:?}");
+            }
+        }
+    }
 }
 
 #[test]
