@@ -1,31 +1,54 @@
 //! The text of lines.
-ghost use Rattle.std.specs.Prelude.{◌≡◌, [], ◌∷◌, ◌++◌, OnOk, codes, decimal};
+ghost use Rattle.std.specs.Prelude.{◌≡◌, ◌+◌, ◌*◌, ◌<◌, ◌≤◌, ◌++◌, OnOk, codes, decimal, drop, length};
 ghost use Rattle.trace_gen.specs.Generated.{cpus_of};
 ghost use Rattle.trace_gen.specs.TraceText.{line_of, line_text, heads_text};
-ghost use Rattle.std.specs.List.{flat_map};
 
 use crate::line::Line;
-use itoa::Buffer;
+use itoa::write_digits;
 use std::alloc::AllocError;
 
-/// Appends a number behind a space.
-fn push_number(text: &mut Vec<u8>, n: u32) -> Result<(), AllocError>
-    ensures { OnOk result (text.new.items ≡ text.old.items ++ codes " " ++ decimal n) }
+/// Bytes of a space and the digits of the greatest number.
+const MOST_NUMBER: usize = 11;
+
+/// Bytes that the longest line has room in.
+const MOST_LINE: usize = 48;
+
+/// Writes a word so that it ends at `end`, and tells where it begins.
+fn write_word(word: &[u8], line: &mut [u8], end: usize) -> usize
+    requires within { end ≤ length line.old }
+    requires room { length word.now ≤ end }
+    ensures written { drop result line.new ≡ word.now ++ drop end line.old }
+    ensures begin { result + length word.now ≡ end }
 {
-    let mut digits = Buffer::new();
-    text.extend_from_slice(b" ")?;
-    text.extend_from_slice(digits.format(n).as_bytes())
+    let begin = end - word.len();
+    line[begin..end].copy_from_slice(word);
+    begin
 }
 
-/// Appends a line of a word and numbers.
+/// Writes a number behind a space so that it ends at `end`, and tells where the space stands.
+fn write_number(n: u32, line: &mut [u8], end: usize) -> usize
+    requires within { end ≤ length line.old }
+    requires room { MOST_NUMBER ≤ end }
+    ensures written { drop result line.new ≡ codes " " ++ decimal n ++ drop end line.old }
+    ensures begin { (result ≤ end) × (end ≤ result + MOST_NUMBER) }
+{
+    let digits = write_digits(u64::from(n), line, end);
+    line[digits - 1] = b' ';
+    digits - 1
+}
+
+/// Appends a line of a word and numbers. It is written from its end, and then appended as a whole.
 fn push_words(text: &mut Vec<u8>, word: &[u8], numbers: &[u32]) -> Result<(), AllocError>
+    requires { length word.now + MOST_NUMBER * length numbers.now < MOST_LINE }
     ensures { OnOk result (text.new.items ≡ text.old.items ++ line_of word.now numbers.now) }
 {
-    text.extend_from_slice(word)?;
-    for number in numbers {
-        push_number(text, *number)?;
+    let mut line = [b'\n'; MOST_LINE];
+    let mut end = MOST_LINE - 1;
+    for place in (0..numbers.len()).rev() {
+        end = write_number(numbers[place], &mut line, end);
     }
-    text.extend_from_slice(b"\n")
+    let begin = write_word(word, &mut line, end);
+    text.extend_from_slice(&line[begin..])
 }
 
 /// Appends a line.
