@@ -1,20 +1,13 @@
--- The values behind a word, one after another.
-use Rattle.std.proofs.Common.{◌≡◌, ℕ, ◌<◌, ◌^◌, List, [], ◌∷◌, ◌==◌, false, length, drop, Some, None, Ok, refl, option_map, arith, lit≤}
+-- The values behind a word.
+use Rattle.std.proofs.Common.{◌≡◌, ℕ, ◌<◌, ◌^◌, List, [], ◌∷◌, ◌==◌, false, length, Some, None, Ok, arith, lit≤}
 use Rattle.std.proofs.lemmas.Bool.Decides.{nat_tests}
-use Rattle.std.specs.Prelude.{option_and_then, slice_get}
 use Rattle.tc_model.specs.declared.config.Head as heads
 use Rattle.tc_model.specs.declared.config.Head.TheVariants as head
 use Rattle.tc_model.specs.Heads.{head_rule}
 use Rattle.trace_reader.specs.declared.word.Word.{Word}
 use Rattle.trace_reader.specs.declared.form.Form.{Form}
 use Rattle.trace_reader.specs.Words.{Range, ranges_of}
-use Rattle.trace_reader.specs.Form.{number_in, numbers_in, form_of, read_fields}
-
--- the first value, and the others
-pub numbers_next : (range : Range) (ranges : List Range) (fields : List (List ℕ))
-    → numbers_in (range ∷ ranges) fields ≡ option_and_then (λ n. option_map (λ more. n ∷ more) (numbers_in ranges (drop 1 fields))) (option_and_then (number_in range) (slice_get fields 0))
-numbers_next range ranges [] = refl
-numbers_next range ranges (f ∷ fs) = refl
+use Rattle.trace_reader.specs.Form.{numbers_in, form_of, read_fields}
 
 -- there are none where there are more fields, or fewer
 pub numbers_none : (ranges : List Range) (fields : List (List ℕ)) → (length fields == length ranges) ≡ false → numbers_in ranges fields ≡ None

@@ -10,7 +10,7 @@ use crate::limits::{
 use crate::why::LineWhy;
 use crate::word::Word;
 use tc_model::Head;
-use trace_text::{Fields, number};
+use trace_text::Fields;
 
 /// What a line says, its numbers in their ranges. Whether there are such a thread, CPU and class, and
 /// whether the label may be used, isn't known yet.
@@ -56,25 +56,9 @@ pub enum Form {
     },
 }
 
-/// The number of a canonical decimal from `least` to `most`.
-pub fn read_number(field: &[u8], least: u64, most: u64) -> Option<u64>
-    ensures number { result ≡ number_in (from_to least most) field.now }
-    ensures range { IfSome result (λ n. (least ≤ n) × (n ≤ most)) }
-{
-    number(field, most).filter(|n| *n >= least)
-}
-
-/// The number of a thread, a CPU or a class, whether there is such a one or not.
-pub fn read_place(field: &[u8]) -> Option<u64>
-    ensures number { result ≡ number_in place field.now }
-    ensures range { IfSome result (λ n. n ≤ MOST_PLACE) }
-{
-    read_number(field, 0, MOST_PLACE)
-}
-
 /// The number of the next field, from `least` to `most`.
 #[inline(always)]
-fn next_number(fields: &mut Fields, least: u64, most: u64) -> Option<u64>
+pub fn next_number(fields: &mut Fields, least: u64, most: u64) -> Option<u64>
     requires { most < 2 ^ 60 }
     ensures number { result ≡ option_and_then (number_in (from_to least most)) (slice_get fields.old.fields 0) }
     ensures others { IfSome result (λ _. fields.new.fields ≡ drop 1 fields.old.fields) }
@@ -85,7 +69,7 @@ fn next_number(fields: &mut Fields, least: u64, most: u64) -> Option<u64>
 
 /// The number of the next field, of a thread, a CPU or a class.
 #[inline(always)]
-fn next_place(fields: &mut Fields) -> Option<u64>
+pub fn next_place(fields: &mut Fields) -> Option<u64>
     ensures number { result ≡ option_and_then (number_in place) (slice_get fields.old.fields 0) }
     ensures others { IfSome result (λ _. fields.new.fields ≡ drop 1 fields.old.fields) }
     ensures range { IfSome result (λ n. n ≤ MOST_PLACE) }
@@ -95,7 +79,7 @@ fn next_place(fields: &mut Fields) -> Option<u64>
 
 /// `Some` exactly where no field is left.
 #[inline(always)]
-fn end(fields: &mut Fields) -> Option<()>
+pub fn end(fields: &mut Fields) -> Option<()>
     ensures { MatchOption result (fields.old.fields ≢ []) (λ _. fields.old.fields ≡ []) }
 {
     match fields.next() {
@@ -104,7 +88,7 @@ fn end(fields: &mut Fields) -> Option<()>
     }
 }
 
-#[tactic(auto, using(crate::proofs::Values::head_most, crate::proofs::Values::numbers_next))]
+#[tactic(auto, using(crate::proofs::Values::head_most))]
 fn head(fields: &mut Fields, head: Head) -> Option<Form>
     ensures form { result ≡ form_of (word.Head head) fields.old.fields }
     ensures range { IfSome result (IsReadAs (word.Head head)) }
@@ -116,7 +100,6 @@ fn head(fields: &mut Fields, head: Head) -> Option<Form>
 }
 
 #[inline(always)]
-#[tactic(auto, using(crate::proofs::Values::numbers_next))]
 fn malloc(fields: &mut Fields) -> Option<Form>
     ensures form { result ≡ form_of word.Malloc fields.old.fields }
     ensures range { IfSome result (IsReadAs word.Malloc) }
@@ -133,7 +116,6 @@ fn malloc(fields: &mut Fields) -> Option<Form>
 }
 
 #[inline(always)]
-#[tactic(auto, using(crate::proofs::Values::numbers_next))]
 fn free(fields: &mut Fields) -> Option<Form>
     ensures form { result ≡ form_of word.Free fields.old.fields }
     ensures range { IfSome result (IsReadAs word.Free) }
@@ -144,7 +126,6 @@ fn free(fields: &mut Fields) -> Option<Form>
     Some(Form::Free { thread, label })
 }
 
-#[tactic(auto, using(crate::proofs::Values::numbers_next))]
 fn preemption(fields: &mut Fields) -> Option<Form>
     ensures form { result ≡ form_of word.Move fields.old.fields }
     ensures range { IfSome result (IsReadAs word.Move) }
@@ -160,7 +141,6 @@ fn preemption(fields: &mut Fields) -> Option<Form>
     })
 }
 
-#[tactic(auto, using(crate::proofs::Values::numbers_next))]
 fn release(fields: &mut Fields) -> Option<Form>
     ensures form { result ≡ form_of word.Release fields.old.fields }
     ensures range { IfSome result (IsReadAs word.Release) }
@@ -171,7 +151,6 @@ fn release(fields: &mut Fields) -> Option<Form>
     Some(Form::Release { thread, pages })
 }
 
-#[tactic(auto, using(crate::proofs::Values::numbers_next))]
 fn drain(fields: &mut Fields) -> Option<Form>
     ensures form { result ≡ form_of word.Drain fields.old.fields }
     ensures range { IfSome result (IsReadAs word.Drain) }
@@ -182,7 +161,6 @@ fn drain(fields: &mut Fields) -> Option<Form>
     Some(Form::Drain { thread, cpu })
 }
 
-#[tactic(auto, using(crate::proofs::Values::numbers_next))]
 fn resize(fields: &mut Fields) -> Option<Form>
     ensures form { result ≡ form_of word.Resize fields.old.fields }
     ensures range { IfSome result (IsReadAs word.Resize) }

@@ -1,9 +1,8 @@
 //! What a line of an order file says.
-ghost use Rattle.std.specs.Prelude.{◌≡◌, ◌∷◌, ◌<◌, ◌≤◌, false, IfOk, IfSome, MatchOption};
-ghost use Rattle.std.specs.Option.{option_copied, option_to_list};
+ghost use Rattle.std.specs.Prelude.{◌≡◌, ◌≤◌, IfOk, IfSome};
 ghost use Rattle.trace_reader.specs.Orders.{line_turns, has_turn_fields, read_turn_fields};
 
-use crate::form::{read_number, read_place};
+use crate::form::{end, next_number, next_place};
 use crate::limits::MOST_TURNS;
 use crate::why::OrderWhy;
 use trace_text::Fields;
@@ -15,34 +14,29 @@ pub struct Turns {
     pub picks: u32,
 }
 
-/// The one field that is left, or the two.
-fn one_or_two<'a>(line: &mut Fields<'a>) -> Option<(&'a [u8], Option<&'a [u8]>)>
-    ensures { MatchOption result (has_turn_fields line.old.fields ≡ false) (λ f. line.old.fields ≡ f.0.now ∷ option_to_list (option_copied f.1)) }
-{
-    let first = line.next()?;
-    let Some(second) = line.next() else {
-        return Some((first.bytes, None));
-    };
-    match line.next() {
-        None => Some((first.bytes, Some(second.bytes))),
-        Some(_) => None,
-    }
-}
-
-/// Picks of a thread: one where their number isn't there.
-fn turns_with(thread: &[u8], picks: Option<&[u8]>) -> Option<Turns>
-    ensures turns { result ≡ line_turns (thread.now ∷ option_to_list (option_copied picks.entry)) }
+/// Picks of a thread: one where their number isn't there. `None` where the fields that are left say no such thing.
+fn turns_of(line: &mut Fields) -> Option<Turns>
+    ensures turns { result ≡ line_turns line.old.fields }
     ensures range { IfSome result (λ turns. turns.picks ≤ MOST_TURNS) }
 {
-    let thread = read_place(thread)?;
-    let picks = match picks {
-        None => 1,
-        Some(picks) => read_number(picks, 1, MOST_TURNS)?,
+    let thread = next_place(line)?;
+    let picks = if line.is_empty() {
+        1
+    } else {
+        next_number(line, 1, MOST_TURNS)?
     };
+    end(line)?;
     Some(Turns {
         thread: thread as u16,
         picks: picks as u32,
     })
+}
+
+/// Whether one field is left, or two.
+fn has_turn_fields(line: &mut Fields) -> bool
+    ensures { result ≡ has_turn_fields line.old.fields }
+{
+    line.next().is_some() && (line.next().is_none() || line.next().is_none())
 }
 
 /// What a line says, by the rules `Fields` and `Number`.
@@ -50,8 +44,10 @@ pub fn read_turns(line: &mut Fields) -> Result<Turns, OrderWhy>
     ensures turns { result ≡ read_turn_fields line.old.fields }
     ensures range { IfOk result (λ turns. turns.picks ≤ MOST_TURNS) }
 {
-    match one_or_two(line) {
+    let mut all = line.again();
+    match turns_of(line) {
+        Some(turns) => Ok(turns),
+        None if has_turn_fields(&mut all) => Err(OrderWhy::Number),
         None => Err(OrderWhy::Fields),
-        Some((thread, picks)) => turns_with(thread, picks).ok_or(OrderWhy::Number),
     }
 }

@@ -75,7 +75,7 @@ fn first_number(rest: &[u8], most: u64) -> Option<(u64, usize)>
 }
 
 impl<'a> Fields<'a> {
-    ghost use Rattle.std.specs.Prelude.{◌≡◌, ◌^◌, ◌<◌, ◌≤◌, drop, option_and_then, slice_get, slice_range};
+    ghost use Rattle.std.specs.Prelude.{◌≡◌, ◌==◌, ◌^◌, ◌<◌, ◌≤◌, drop, length, option_and_then, slice_get, slice_range};
     ghost use Rattle.tc_units.specs.Decimal.{number_of};
     ghost use Rattle.trace_text.specs.Lines.{fields_of};
 
@@ -98,6 +98,13 @@ impl<'a> Fields<'a> {
         ensures { result ≡ self.now.line }
     {
         self.line
+    }
+
+    /// Whether no field is left.
+    pub fn is_empty(&self) -> bool
+        ensures { result ≡ (length self.now.fields == 0) }
+    {
+        self.start > self.end
     }
 
     /// The same fields, to be read once more.

@@ -75,6 +75,7 @@ fn numbers_that_are_cut(rt: HostRuntime) {
             assert_eq!(rt; again.number(99), first, "at {text:?}");
             if first.is_some() {
                 assert_eq!(rt; line.number(99), second, "at {text:?}");
+                assert_eq!(rt; line.is_empty(), second.is_some(), "at {text:?}");
             }
         }
     }
