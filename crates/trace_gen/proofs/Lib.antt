@@ -4,3 +4,4 @@ mod Forms
 mod Labels
 pub mod TextFields
 pub mod Valid
+pub mod Digits

@@ -26,6 +26,7 @@ fn write_word(word: &[u8], line: &mut [u8], end: usize) -> usize
 }
 
 /// Writes a number behind a space so that it ends at `end`, and tells where the space stands.
+#[tactic(auto, using(crate::proofs::Digits::ten_digits))]
 fn write_number(n: u32, line: &mut [u8], end: usize) -> usize
     requires within { end ≤ length line.old }
     requires room { MOST_NUMBER ≤ end }
