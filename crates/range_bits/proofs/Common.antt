@@ -12,7 +12,7 @@ pub use Rattle.std.proofs.lemmas.List.{get_or-set_other, get_or-set_same, get_or
 pub use Rattle.std.proofs.lemmas.List.{length-map, length-replicate, length-take, length-take-le, nil_from_length, same_lists}
 pub use Rattle.std.proofs.lemmas.List.Elements.{All-filter, All-from_get_or, All-head, All-tail, filter_passes}
 pub use Rattle.std.proofs.lemmas.List.Sums.{count_by-le-length, get_or-le-sum_by, length-filter, prefix_len-drop_all, prefix_len-drop_no, prefix_len-drop_yes}
-pub use Rattle.std.proofs.lemmas.List.Sums.{prefix_len-le-length, prefix_len_passes, sum_by-append, sum_by-cons, sum_by-take-drop}
+pub use Rattle.std.proofs.lemmas.List.Sums.{prefix_len-le-length, prefix_len_passes, prefix_len_stops, sum_by-append, sum_by-cons, sum_by-take-drop}
 pub use Rattle.std.proofs.lemmas.Nat.{and_le_l, and_le_r, pow_pos}
 pub use Rattle.std.proofs.lemmas.Nat.Bits.{bit_at-lt, bit_at-trailing_zeros, bit_at-zero, bit_at_above, bit_at_and, bit_at_cat_high, bit_at_mask_above}
 pub use Rattle.std.proofs.lemmas.Nat.Bits.{bit_at_mask_below, bit_at_mask_inside, bit_at_not, bit_at_ones, bit_at_ones_above, bit_at_or, ones_shl, ones_shr}

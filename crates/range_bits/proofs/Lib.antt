@@ -5,6 +5,8 @@ mod Cuts
 mod EndBits
 pub mod Least
 pub mod Placing
+pub mod Joined
+pub mod Narrowed
 pub mod Parts
 pub mod RowFacts
 pub mod Scan

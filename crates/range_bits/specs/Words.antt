@@ -1,5 +1,5 @@
 -- Rows of places as words of 64 bits: a place is used where its bit is 1.
-use Rattle.std.specs.Prelude.{◌≡◌, ℕ, ◌+◌, ◌*◌, ◌/◌, ◌%◌, ◌<◌, ◌≤◌, Bool, true, false, not, ◌==◌, List, length, map, slice_index}
+use Rattle.std.specs.Prelude.{◌≡◌, ℕ, ◌+◌, ◌*◌, ◌/◌, ◌%◌, ◌<◌, ◌≤◌, Bool, true, false, not, ◌==◌, ◌||◌, List, length, map, slice_index, if◌then◌else◌}
 use Rattle.std.specs.List.{range_with_len, slice_index_or}
 use Rattle.std.specs.Int.{bit_at}
 
@@ -30,3 +30,12 @@ pub record IsNextRange (row : List Bool) (from start len : ℕ) : Type 0 where
   pub used : (k : ℕ) → from ≤ k → k < start → slice_index_or row k true ≡ true
   pub free : (k : ℕ) → start ≤ k → k < start + len → slice_index_or row k true ≡ false
   pub end : start + len < length row → slice_index_or row (start + len) true ≡ true
+
+-- a word with a 0 for each bit of a word that is 0 with the bit behind it; behind the last one stands the next word's first
+abbrev pub IsJoined : ℕ → ℕ → ℕ → Type 0
+IsJoined word next both = (k : ℕ) → k < 64 → is_one both k ≡ (is_one word k || (if k == 63 then is_one next 0 else is_one word (k + 1)))
+
+-- a row in which those places are free that are free in another one, with the place behind them
+pub record IsNarrowed (old new : List Bool) : Type 0 where
+  pub len : length new ≡ length old
+  pub each : (k : ℕ) → slice_index_or new k true ≡ (slice_index_or old k true || slice_index_or old (k + 1) true)

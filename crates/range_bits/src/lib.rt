@@ -3,6 +3,7 @@
 #![tactic(auto)]
 
 mod counting;
+mod narrowing;
 mod ranges;
 #[cfg(test)]
 mod tests;

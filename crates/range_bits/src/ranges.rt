@@ -1,9 +1,10 @@
 //! The free ranges of a row, each found by the next free place and the next used one behind it.
-ghost use Rattle.std.specs.Prelude.{◌≡◌, ◌↔◌, None, ◌*◌, ◌+◌, ◌<◌, ◌≤◌, ◌^◌, length, option_map};
+ghost use Rattle.std.specs.Prelude.{◌≡◌, ◌↔◌, None, IfSome, ◌*◌, ◌+◌, ◌<◌, ◌≤◌, ◌^◌, length, option_map};
 ghost use Rattle.range_bits.specs.FreeRanges.{shorter_of};
 ghost use Rattle.range_bits.specs.Ranges.{free_from, longest, best};
 ghost use Rattle.range_bits.specs.Words.{row_of, IsNextRange};
 
+use crate::narrowing::{best_of_four, longest_of_four};
 use crate::words::next_place;
 
 /// Free places that follow each other.
@@ -28,8 +29,8 @@ fn next_range(words: &[u64], from: u32) -> FreeRange
     }
 }
 
-/// The greatest number of free places that follow each other.
-pub fn longest(words: &[u64]) -> u32
+/// The greatest number of free places that follow each other, by each free range.
+pub fn longest_range(words: &[u64]) -> u32
     requires { 64 * length words.now < 2 ^ 32 }
     ensures { result ≡ longest (row_of words.now) }
 {
@@ -54,7 +55,7 @@ fn shorter(earlier: Option<FreeRange>, range: FreeRange) -> FreeRange
 }
 
 /// The shortest maximal free range of at least `n` places, the first one where several are as short.
-fn best_range(words: &[u64], n: u32) -> Option<FreeRange>
+pub fn best_range(words: &[u64], n: u32) -> Option<FreeRange>
     requires fits { 64 * length words.now < 2 ^ 32 }
     requires some { 0 < n }
     ensures { option_map (λ range. range.start) result ≡ best (row_of words.now) n }
@@ -71,6 +72,29 @@ fn best_range(words: &[u64], n: u32) -> Option<FreeRange>
     found
 }
 
+/// The words of a row of four, where each has a used place: its free ranges are short then.
+fn four(words: &[u64]) -> Option<[u64; 4]>
+    ensures { IfSome result (λ all. all ≡ words.now) }
+{
+    match *words {
+        [first, second, third, last] if first != 0 && second != 0 && third != 0 && last != 0 => {
+            Some([first, second, third, last])
+        }
+        _ => None,
+    }
+}
+
+/// The greatest number of free places that follow each other.
+pub fn longest(words: &[u64]) -> u32
+    requires { 64 * length words.now < 2 ^ 32 }
+    ensures { result ≡ longest (row_of words.now) }
+{
+    match four(words) {
+        Some(all) => longest_of_four(all),
+        None => longest_range(words),
+    }
+}
+
 /// Where the shortest maximal free range of at least `n` places begins, the first one where several
 /// are as short.
 pub fn best(words: &[u64], n: u32) -> Option<u32>
@@ -79,5 +103,8 @@ pub fn best(words: &[u64], n: u32) -> Option<u32>
     ensures value { result ≡ best (row_of words.now) n }
     ensures none { (result ≡ None) ↔ (longest (row_of words.now) < n) }
 {
-    best_range(words, n).map(|range| range.start)
+    match four(words) {
+        Some(all) => best_of_four(all, n),
+        None => best_range(words, n).map(|range| range.start),
+    }
 }

@@ -1,7 +1,7 @@
 use Rattle.std.proofs.Common.{◌-◌, ◌*◌, ◌≤◌, length}
 use Rattle.range_bits.proofs.Common.{row_of}
 use Rattle.range_bits.proofs.Scan.{IsLongest}
-use Rattle.range_bits.proofs.ranges.longest.Given as goal
+use Rattle.range_bits.proofs.ranges.longest_range.Given as goal
 
 abbrev pub invariant-loop-from : goal.invariant-loop-from
 invariant-loop-from l = record {
