@@ -13,6 +13,8 @@ use tc_units::Huge;
 #[derive(Drop)]
 pub struct HugeIndex {
     list: SortedList<Key>,
+    /// By number of a hugepage, from 1 on: where its key was put last. It stands there still, or near it.
+    places: Vec<usize>,
 }
 
 impl Model for HugeIndex {
@@ -36,6 +38,7 @@ impl HugeIndex {
     {
         Ok(HugeIndex {
             list: SortedList::open(alloc, room)?,
+            places: vec![in alloc; 0; room]?,
         })
     }
 
@@ -81,20 +84,25 @@ impl HugeIndex {
         ensures held { Contains self.new.keys to }
         ensures spare { self.new.spare ≡ self.old.spare }
     {
-        let Key {
-            tier,
-            longest,
-            allocs,
-            huge,
-        } = to;
-        self.list.rekey(
-            from,
-            Key {
-                tier,
-                longest,
-                allocs,
-                huge,
-            },
-        );
+        let near = self.place_of(from.huge);
+        let place = self.list.rekey_near(near, from, to);
+        self.note(to.huge, place);
+    }
+
+    /// Where a hugepage's key was put last, or the first place.
+    fn place_of(&self, huge: Huge) -> usize {
+        match self.places.get(usize::from(huge.0).wrapping_sub(1)) {
+            Some(place) => *place,
+            None => 0,
+        }
+    }
+
+    /// Notes where a hugepage's key is put.
+    fn note(&mut self, huge: Huge, place: usize)
+        ensures { self.new ≡ self.old }
+    {
+        if let Some(noted) = self.places.get_mut(usize::from(huge.0).wrapping_sub(1)) {
+            *noted = place;
+        }
     }
 }

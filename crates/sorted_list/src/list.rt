@@ -11,6 +11,9 @@ use tc_units::Steps;
 /// The most keys of a list, so that a slot is numbered by a `u16`.
 const MOST_KEYS: usize = 65_536;
 
+/// How many places a key is looked for from another one's before it is searched.
+const NEAR: usize = 8;
+
 /// Keys in their order. Contracts see them so, and how many more there is room for. Each key lies in a
 /// slot: one that comes or leaves moves numbers of slots, and no other key.
 #[derive(Drop)]
@@ -205,47 +208,61 @@ impl<K: SortKey> SortedList<K> {
         self.place_by::<Brand>(key, Blank::new(1))
     }
 
-    /// Whether all keys before a place come before a key, by the last of them.
-    fn is_behind(&self, place: usize, key: K) -> bool
-        requires { place ≤ length self.now.keys }
-        ensures early { result ≡ true → (i : ℕ) (d : K) → i < place → K.before (slice_index_or self.now.keys i d) key ≡ true }
-        ensures order { IsInOrder K.before self.now.keys }
-    {
-        let _len = self.len();
-        place == 0 || self.at(place - 1).comes_before(key)
-    }
-
-    /// Whether no key from a place on does, by the first of them.
-    fn is_ahead(&self, place: usize, key: K) -> bool
-        requires { place ≤ length self.now.keys }
-        ensures { result ≡ true → (i : ℕ) (d : K) → place ≤ i → i < length self.now.keys
+    /// Whether the key at a place comes before a key: then all up to it do, and else none from it on does.
+    fn is_before(&self, place: usize, key: K) -> bool
+        requires { place < length self.now.keys }
+        ensures early { result ≡ true → (i : ℕ) (d : K) → i ≤ place → K.before (slice_index_or self.now.keys i d) key ≡ true }
+        ensures behind { result ≡ false → (i : ℕ) (d : K) → place ≤ i → i < length self.now.keys
             → K.before (slice_index_or self.now.keys i d) key ≡ false }
     {
-        place == self.len() || !self.at(place).comes_before(key)
+        let _len = self.len();
+        self.at(place).comes_before(key)
     }
 
-    /// Whether a place is that of a key.
-    fn is_place(&self, place: usize, key: K) -> bool
-        requires { place ≤ length self.now.keys }
-        ensures { result ≡ true → IsPlaceOf K.before self.now.keys key place }
+    /// How many keys come before a key, where all before a place do: they are looked at from there on, a few at most.
+    fn later(&self, near: usize, key: K) -> usize
+        requires within { near ≤ length self.now.keys }
+        requires early { (i : ℕ) (d : K) → i < near → K.before (slice_index_or self.now.keys i d) key ≡ true }
+        ensures { IsPlaceOf K.before self.now.keys key result }
     {
-        self.is_behind(place, key) && self.is_ahead(place, key)
+        let few = NEAR.min(self.len() - near);
+        for step in 0..few {
+            if !self.is_before(near + step, key) {
+                return near + step;
+            }
+        }
+        self.place(key)
     }
 
-    /// How many keys come before a key, which is found without a search at a place or behind the key there.
+    /// The same, where none from a place on comes before it: those before the place are looked at from the last one back.
+    fn earlier(&self, near: usize, key: K) -> usize
+        requires within { near ≤ length self.now.keys }
+        requires behind { (i : ℕ) (d : K) → near ≤ i → i < length self.now.keys
+            → K.before (slice_index_or self.now.keys i d) key ≡ false }
+        ensures { IsPlaceOf K.before self.now.keys key result }
+    {
+        for step in 0..NEAR {
+            if step == near {
+                return 0;
+            }
+            if self.is_before(near - step - 1, key) {
+                return near - step;
+            }
+        }
+        self.place(key)
+    }
+
+    /// How many keys come before a key, which is found without a search where that is near a place.
     fn place_near(&self, near: usize, key: K) -> usize
         ensures order { IsInOrder K.before self.now.keys }
         ensures place { IsPlaceOf K.before self.now.keys key result }
     {
-        if near < self.len() {
-            if self.is_place(near, key) {
-                return near;
-            }
-            if self.is_place(near + 1, key) {
-                return near + 1;
-            }
+        let near = near.min(self.len());
+        if near == 0 || self.is_before(near - 1, key) {
+            self.later(near, key)
+        } else {
+            self.earlier(near - 1, key)
         }
-        self.place(key)
     }
 
     /// Adds a key.
@@ -281,11 +298,22 @@ impl<K: SortKey> SortedList<K> {
         ensures held { Contains self.new.keys to }
         ensures spare { self.new.spare ≡ self.old.spare }
     {
-        let place = self.place_near(self.recent, from);
+        self.recent = self.rekey_near(self.recent, from, to);
+    }
+
+    /// The same, of a key that is looked for near a place first. Answers where the other key stands then.
+    pub fn rekey_near(&mut self, near: usize, from: K, to: K) -> usize
+        requires { Contains self.old.keys from }
+        ensures keys { IsPermutation (to ∷ self.old.keys) (from ∷ self.new.keys) }
+        ensures held { Contains self.new.keys to }
+        ensures spare { self.new.spare ≡ self.old.spare }
+        ensures placed { slice_get self.new.keys result ≡ Some to }
+    {
+        let place = self.place_near(near, from);
         let target = self.place_near(place, to);
         let slot = self.order[place];
         self.slots[slot as usize] = to;
         turn(&mut self.order, place, target, slot);
-        self.recent = target - usize::from(place < target);
+        target - usize::from(place < target)
     }
 }

@@ -82,6 +82,10 @@ fn a_task_with_another_weight(rt: HostRuntime) -> Result<(), Fail> {
     assert_eq!(rt; list.last(), Some(job(10, 1)));
     assert_eq!(rt; list.first_at_or_after(job(20, 3)), Some(job(10, 1)));
     assert_eq!(rt; list.len(), 3);
+    // Looked for behind all keys, and at a place behind it.
+    assert_eq!(rt; list.rekey_near(7, job(40, 3), job(15, 3)), 1);
+    assert_eq!(rt; list.rekey_near(2, job(15, 3), job(30, 3)), 0);
+    assert_eq!(rt; list.first(), Some(job(30, 3)));
     Ok(())
 }
 

@@ -1,9 +1,9 @@
-use Rattle.std.proofs.Common.{length, ap, sym, arith}
-use Rattle.sorted_list.proofs.Common.{nat_tests, slice_get_read, Contents}
+use Rattle.std.proofs.Common.{◌≡◌, ◌-◌, length, ap, sym, ◌∙◌, arith}
+use Rattle.sorted_list.proofs.Common.{nat_tests, slice_get, slice_get_read, Contents}
 use Rattle.sorted_list.proofs.Changes.{held_at}
-use Rattle.sorted_list.proofs.Moves.{written, changed}
+use Rattle.sorted_list.proofs.Moves.{landing, landing_up, landing_down, written, changed}
 use Rattle.sorted_list.proofs.Slots.{slot_fits, keys_len}
-use Rattle.sorted_list.proofs.list.SortedList.rekey.Goals as goal
+use Rattle.sorted_list.proofs.list.SortedList.rekey_near.Goals as goal
 
 pub index_mut-requires : goal.index_mut-requires
 index_mut-requires g c =
@@ -43,3 +43,15 @@ returns-clause-held g c =
     (changed g.K.SortKey.before g.met.K.SortKey.order g.K.SortKey.sample c.self.inside.slots.items order c.self.inside.len c.self.invariant c.args.self.now.keys
     (ap (λ (v : Contents g.row.K.Denot). v.keys) c.self.view_is) c.args.from c.args.to c.place_near-place.result c.place_near-target.result c.index-slot.result.now _
     c.place_near-place.ensures.order c.place_near-place.ensures.place c.place_near-target.ensures.place c.requires c.index-slot.ensures back).2
+
+pub returns-clause-placed : goal.returns-clause-placed
+returns-clause-placed g c =
+    let order = c.self.inside.order.items in
+    let back = written c.self.inside.order.len order c.deref_mut.result.now c.turn.new.order c.place_near-place.result _ c.index-slot.result.now
+    c.deref_mut.ensures.len c.deref_mut.ensures.value c.turn.ensures.len c.turn.ensures.after in
+    let is =
+    (changed g.K.SortKey.before g.met.K.SortKey.order g.K.SortKey.sample c.self.inside.slots.items order c.self.inside.len c.self.invariant c.args.self.now.keys
+    (ap (λ (v : Contents g.row.K.Denot). v.keys) c.self.view_is) c.args.from c.args.to c.place_near-place.result c.place_near-target.result c.index-slot.result.now _
+    c.place_near-place.ensures.order c.place_near-place.ensures.place c.place_near-target.ensures.place c.requires c.index-slot.ensures back).3 in
+    let there : landing c.place_near-place.result c.place_near-target.result ≡ c.place_near-target.result - c.from.result = grind (arith, nat_tests, landing_up, landing_down) in
+    ap (slice_get _) (sym there) ∙ is
