@@ -1,7 +1,7 @@
 //! The one table of hugepages: bitmaps for what they are, with the pages that runs have beside them.
 #![tactic(auto, using(crate::proofs::Sizes::arena))]
 
-ghost use Rattle.std.specs.Prelude.{◌≡◌, ℕ, ◌+◌, ◌-◌, ◌*◌, ◌/◌, ◌%◌, ◌<◌, ◌≤◌, ◌==◌, ◌||◌, ◌⊎◌, true, false, not, ◌&&◌, length, IfOk, Contains, if◌then◌else◌};
+ghost use Rattle.std.specs.Prelude.{◌≡◌, ℕ, ◌+◌, ◌-◌, ◌*◌, ◌/◌, ◌%◌, ◌<◌, ◌≤◌, ◌==◌, ◌||◌, ◌⊎◌, true, false, not, ◌&&◌, length, take, drop, IfOk, Contains, if◌then◌else◌};
 ghost use Rattle.range_bits.specs.Ranges.{best};
 ghost use Rattle.range_bits.specs.Ranges as ranges;
 ghost use Rattle.tc_units.specs.Units.{huge_pages};
@@ -88,6 +88,26 @@ fn whole_pages(backed: bool) -> u32
     ensures { result ≡ (if backed then huge_pages else 0) }
 {
     if backed { HUGE_PAGES } else { 0 }
+}
+
+/// How many pages of a hugepage a row of bits marks, where it mostly marks them all.
+fn count_mostly_all(bits: &WideBits, huge: Huge) -> u32
+    requires { huge_pages * (huge.0 + 1) ≤ length bits.now }
+    ensures { result ≡ ranges.used_count (take huge_pages (drop (huge_pages * huge.0) bits.now)) }
+{
+    if bits.are_all(4 * usize::from(huge.0), 4, true) {
+        HUGE_PAGES
+    } else {
+        bits.used_in(HUGE_PAGES * u32::from(huge.0), HUGE_PAGES)
+    }
+}
+
+/// Whether a row of bits marks no page of a hugepage.
+fn has_none(bits: &WideBits, place: u32) -> bool
+    requires { huge_pages * (place + 1) ≤ length bits.now }
+    ensures { result ≡ (ranges.used_count (take huge_pages (drop (huge_pages * place) bits.now)) == 0) }
+{
+    bits.are_all(4 * place as usize, 4, false)
 }
 
 /// How a hugepage is shown that one run has whole.
@@ -333,7 +353,7 @@ impl HugeTable {
     {
         let place = u32::from(huge.0);
         let even = whole_pages(self.backed.is_used(place));
-        let own = self.page_backed.used_in(HUGE_PAGES * place, HUGE_PAGES);
+        let own = count_mostly_all(&self.page_backed, huge);
         by_kind(self.kind(huge), HUGE_PAGES, even, own)
     }
 
@@ -454,7 +474,7 @@ impl HugeTable {
             (emptied_where (ranges.used_count (noted_row self.old place) == 0)) self.old }
         ensures room { HasBits self.old }
     {
-        if self.used.used_in(HUGE_PAGES * place, HUGE_PAGES) == 0 {
+        if has_none(&self.used, place) {
             self.empty(place);
         }
     }

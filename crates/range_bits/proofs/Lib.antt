@@ -1,3 +1,4 @@
+pub mod Alike
 pub mod BitFacts
 mod Common
 pub mod Counts

@@ -1,5 +1,5 @@
 //! How many places of a row are used, a word at a time.
-ghost use Rattle.std.specs.Prelude.{◌≡◌, ◌+◌, ◌-◌, ◌*◌, ◌/◌, ◌^◌, ◌<◌, ◌≤◌, length, take, drop};
+ghost use Rattle.std.specs.Prelude.{◌≡◌, ◌↔◌, true, if◌then◌else◌, ◌+◌, ◌-◌, ◌*◌, ◌/◌, ◌^◌, ◌<◌, ◌≤◌, length, take, drop};
 ghost use Rattle.range_bits.specs.Ranges.{used_count};
 ghost use Rattle.range_bits.specs.Words.{row_of};
 
@@ -31,4 +31,23 @@ pub fn used_between(words: &[u64], start: usize, end: usize) -> u32
         used += words[index].count_ones();
     }
     used + used_in_word(words, end) - used_in_word(words, start)
+}
+
+/// A word whose places are all used, or free.
+fn whole(used: bool) -> u64
+    ensures { result ≡ (if used then 2 ^ 64 - 1 else 0) }
+{
+    if used { u64::MAX } else { 0 }
+}
+
+/// Whether all places of words are used, or all are free.
+pub fn are_all(words: &[u64], used: bool) -> bool
+    ensures { (result ≡ true) ↔ (used_count (row_of words.now) ≡ (if used then 64 * length words.now else 0)) }
+{
+    for index in 0..words.len() {
+        if words[index] != whole(used) {
+            return false;
+        }
+    }
+    true
 }

@@ -120,6 +120,12 @@ fn best_in(bits: &WideBits, first: u8, words: u8, n: u32) -> Option<u32> {
     bits.best_in(usize::from(first), usize::from(words), n)
 }
 
+/// Whether all places of some words of the row are used, or all are free.
+fn are_all(bits: &WideBits, first: u8, words: u8, used: bool) -> bool {
+    64 * (u32::from(first) + u32::from(words)) <= bits.places()
+        && bits.are_all(usize::from(first), usize::from(words), used)
+}
+
 #[test]
 fn a_part_of_a_row(rt: HostRuntime) -> Result<(), Fail> {
     let mut bits = WideBits::open(rt.alloc(), 4)?;
@@ -131,6 +137,9 @@ fn a_part_of_a_row(rt: HostRuntime) -> Result<(), Fail> {
     put(&mut bits, 60, 4, true);
     put(&mut bits, 70, 0, true);
     assert_eq!(rt; used(&bits), 84);
+    // Words 0 and 2 have free and used places, word 1 has free ones alone.
+    assert!(rt; are_all(&bits, 1, 1, false) && !are_all(&bits, 1, 1, true));
+    assert!(rt; !are_all(&bits, 1, 2, false) && !are_all(&bits, 0, 1, true));
     // In words 1 and 2, free are places 0 to 63 and 86 to 127, counted from 64 on.
     assert_eq!(rt; best_in(&bits, 1, 2, 1), Some(86));
     assert_eq!(rt; best_in(&bits, 1, 2, 42), Some(86));
@@ -142,5 +151,6 @@ fn a_part_of_a_row(rt: HostRuntime) -> Result<(), Fail> {
     assert_eq!(rt; bits.longest(), 256);
     put(&mut bits, 0, 256, true);
     assert_eq!(rt; used(&bits), 256);
+    assert!(rt; are_all(&bits, 0, 4, true) && !are_all(&bits, 0, 4, false));
     Ok(())
 }

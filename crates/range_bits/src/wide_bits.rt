@@ -1,13 +1,13 @@
 //! Rows of as many places as a list of words has bits.
 #![tactic(auto, using(crate::proofs::RowFacts::places_of, crate::proofs::Parts::row_of_part))]
 
-ghost use Rattle.std.specs.Prelude.{◌≡◌, ◌+◌, ◌*◌, ◌≤◌, ◌<◌, ◌↔◌, false, true, None, length, take, drop, replicate, IfOk};
+ghost use Rattle.std.specs.Prelude.{◌≡◌, ◌+◌, ◌*◌, ◌≤◌, ◌<◌, ◌↔◌, false, true, None, if◌then◌else◌, length, take, drop, replicate, IfOk};
 ghost use Rattle.std.specs.List.{slice_index_or};
 ghost use Rattle.range_bits.specs.Fills.{IsEnd, StaysUsed};
 ghost use Rattle.range_bits.specs.Ranges.{used_count, longest, best, with_places};
 ghost use Rattle.range_bits.specs.Words.{IsNext};
 
-use crate::counting::used_between;
+use crate::counting::{are_all, used_between};
 use crate::ranges;
 use crate::words::{end_place, keep_used, next_place, set_place, set_places};
 use std::alloc::{AllocError, Global};
@@ -110,6 +110,15 @@ impl WideBits {
     {
         let from = start as usize;
         used_between(&self.words, from, from + n as usize)
+    }
+
+    /// Whether all places of `words` words are used, or all are free, from word `first` on.
+    pub fn are_all(&self, first: usize, words: usize, used: bool) -> bool
+        requires { 64 * (first + words) ≤ length self.now }
+        ensures { (result ≡ true) ↔ (used_count (take (64 * words) (drop (64 * first) self.now))
+            ≡ (if used then 64 * words else 0)) }
+    {
+        are_all(&self.words[first..first + words], used)
     }
 
     /// The greatest number of free places that follow each other in `words` words, from word `first` on.

@@ -105,6 +105,9 @@ pub fn set_places(words: &mut [u64], start: usize, end: usize, used: bool)
     ensures places { row_of words.new ≡ with_places (row_of words.old) start (end - start) used }
     ensures len { length words.new ≡ length words.old }
 {
+    if start == end {
+        return;
+    }
     for index in start / 64..end.div_ceil(64) {
         let low = start.saturating_sub(index * 64) as u32;
         let high = (end - index * 64).min(64) as u32;
