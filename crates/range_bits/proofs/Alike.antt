@@ -1,6 +1,6 @@
 -- Words whose places are all used, or all free.
 use Rattle.range_bits.proofs.Common.{cases_Bool, nat_tests, bit_at-lt, bit_at-zero, bit_at_ones, count_none, get_or-le-sum_by, same_from_bits_below, used_count, row_of}
-use Rattle.std.proofs.Common.{◌≡◌, ℕ, ◌+◌, ◌-◌, ◌*◌, ◌/◌, ◌%◌, ◌^◌, ◌<◌, ◌≤◌, Bool, true, false, not, cond, List, length, get_or, count_by, sym, ap, ◌∙◌, arith}
+use Rattle.std.proofs.Common.{◌≡◌, ℕ, ◌+◌, ◌-◌, ◌*◌, ◌/◌, ◌%◌, ◌^◌, ◌<◌, Bool, true, false, not, cond, List, length, get_or, count_by, arith}
 use Rattle.range_bits.proofs.RowFacts.{length-row_of, get_or-row_of, marked_in_word}
 use Rattle.range_bits.proofs.Stretches.{used_and_free}
 
