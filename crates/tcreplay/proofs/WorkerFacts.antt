@@ -1,5 +1,5 @@
 -- What threads left of a run, and what it comes to once it is completed.
-use Rattle.std.proofs.Common.{◌≡◌, ℕ, ◌≤◌, List, length, Result, sym, ap, subst, ◌∙◌, arith}
+use Rattle.std.proofs.Common.{◌≡◌, ℕ, ◌≤◌, List, length, Result, ◌∙◌, arith}
 use Rattle.std.specs.Prelude.{IfOk, All, Option, Some, None}
 use Rattle.std.specs.declared.alloc.AllocError.{AllocError}
 use Rattle.std.proofs.lemmas.List.{length-append, length-map}
@@ -9,7 +9,7 @@ use Rattle.tc_model.specs.declared.board.Turn.{Turn}
 use Rattle.tc_model.specs.declared.board.Turn.TheVariants.{Ended}
 use Rattle.tc_model.specs.declared.answers.Finished.{Finished}
 use Rattle.tc_model.specs.Input.{Input}
-use Rattle.tc_model.specs.Run.{Rules, world_of, start, run}
+use Rattle.tc_model.specs.Run.{Rules, start, run}
 use Rattle.tc_model.specs.Steps.{moving}
 use Rattle.tc_model.specs.Chains.{IsPolite}
 use Rattle.tc_model.specs.Replays.{HaveEnded}
