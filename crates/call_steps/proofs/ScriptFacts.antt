@@ -1,12 +1,12 @@
 -- How a script goes on behind a call, and which calls its answers decide.
 use Rattle.std.proofs.Common.{◌≡◌, refl, ℕ, zero, suc, List, [], ◌∷◌, ◌++◌, length, drop, ap, sym, arith, map, ◌+◌, ◌<◌, ◌≤◌, ◌∙◌, true}
-use Rattle.std.specs.Prelude.{Option, Some, None, is_some, slice_get}
+use Rattle.std.specs.Prelude.{Option, Some, None, is_some, option_map, slice_get}
 use Rattle.std.proofs.lemmas.List.{drop_all}
 use Rattle.tc_units.specs.Bag.{Contents}
 use Rattle.tc_model.specs.declared.answers.Answered.{Answered}
 use Rattle.tc_model.specs.declared.calls.Call.{Call}
 use Rattle.tc_model.specs.declared.calls.Planned.{Planned}
-use Rattle.call_steps.specs.Local.{Decided}
+use Rattle.call_steps.specs.Local.{Decided, told}
 use Rattle.call_steps.specs.Calls.{About}
 use Rattle.call_steps.specs.Rows.{undecided, under, without_call}
 use Rattle.call_steps.specs.declared.step.Step.{Step}
@@ -60,6 +60,17 @@ decided_length : (script : List Planned) (answers : List Answered) → length an
 decided_length script [] few = refl
 decided_length [] (a ∷ as') few = absurd (omega (arith, few))
 decided_length (p ∷ ps) (a ∷ as') few = ap (λ n. suc n) (decided_length ps as' (omega (arith, few)))
+
+-- there are as many answers as decided calls
+pub as_many : (script : List Planned) (answers : List Answered) (meant : List Decided) → length answers ≤ length script
+    → decided_by script answers ≡ meant → length answers ≡ length meant
+as_many script answers meant few is = sym (decided_length script answers few) ∙ ap length is
+
+-- how the decided call at a place is told
+pub told_at : (thread : ℕ) (script : List Planned) (answers : List Answered) (meant : List Decided) (i : ℕ) (p : Planned) (a : Answered) → decided_by script answers ≡ meant
+    → slice_get script i ≡ Some p → slice_get answers i ≡ Some a
+    → Some (record { thread = record { 0 = thread }; call = p.call; answer = a.answer }) ≡ option_map (told thread) (slice_get meant i)
+told_at thread script answers meant i p a is at there = ap (option_map (told thread)) (sym (decided_at script answers i p a at there) ∙ ap (λ ds. slice_get ds i) is)
 
 pub answered_within : (script : List Planned) (answers : List Answered) (meant : List Decided) (i : ℕ) → length answers ≤ length script
     → decided_by script answers ≡ meant → i < length meant → i < length answers

@@ -3,6 +3,7 @@ ghost use Rattle.std.specs.Prelude.{◌≡◌, ◌<◌, ◌-◌, ◌^◌, OnOk, 
 ghost use Rattle.call_steps.specs.Acts.{front_after, front_yields};
 ghost use Rattle.call_steps.specs.Fits.{FitsFront};
 
+use crate::answers::Answers;
 use crate::front::FrontEnd;
 use crate::local::Local;
 use crate::setting::Setting;
@@ -11,10 +12,10 @@ use std::alloc::AllocError;
 
 /// The act at a part of the front-end that the thread does next. Where memory is wanting, all is as before.
 #[inline(always)]
-pub fn act_front<F: FrontEnd>(
+pub fn act_front<F: FrontEnd, A: Answers>(
     setting: &Setting,
     part: &mut F::Part,
-    local: &mut Local<F>,
+    local: &mut Local<F, A>,
 ) -> Result<(), AllocError>
     requires fits { FitsFront (F.fits setting.now) part.old local.old local.old.step }
     requires acts { local.old.acts < 2 ^ 64 - 1 }
@@ -39,7 +40,11 @@ pub fn act_front<F: FrontEnd>(
 }
 
 /// Whether it is polite to let the thread act at a part of the front-end now.
-pub fn yields<F: FrontEnd>(setting: &Setting, part: &F::Part, local: &Local<F>) -> bool
+pub fn yields<F: FrontEnd, A: Answers>(
+    setting: &Setting,
+    part: &F::Part,
+    local: &Local<F, A>,
+) -> bool
     requires { FitsFront (F.fits setting.now) part.now local.now local.now.step }
     ensures { result ≡ front_yields (F.rules setting.now) part.now local.now local.now.step }
 {

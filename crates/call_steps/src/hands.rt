@@ -10,6 +10,7 @@ ghost use Rattle.call_steps.specs.Local.{goes};
 ghost use Rattle.call_steps.specs.Hands.{serves, stock_step, stock_regs, clears, gave};
 ghost use Rattle.call_steps.specs.Follows.{MayGoOnDecided, MayFollow, follows};
 
+use crate::answers::Answers;
 use crate::front::FrontEnd;
 use crate::local::Local;
 use crate::setting::{Setting, row_of};
@@ -18,7 +19,7 @@ use rseq_core::Regs;
 use tc_model::Answer;
 use tc_units::Class;
 
-impl<F: FrontEnd> Local<F> {
+impl<F: FrontEnd, A: Answers> Local<F, A> {
     /// An allocation is decided by the objects that came to its hand: the first is its answer, and with the
     /// others it is to stock the front-end, or gives these to the shard.
     #[inline(always)]

@@ -8,6 +8,7 @@ ghost use Rattle.call_steps.specs.declared.step.NamesStep.TheVariants as named;
 ghost use Rattle.call_steps.specs.Acts.{heap_after};
 ghost use Rattle.call_steps.specs.Fits.{FitsHeap};
 
+use crate::answers::Answers;
 use crate::front::FrontEnd;
 use crate::local::Local;
 use crate::setting::{Setting, row_of};
@@ -19,7 +20,11 @@ use tc_units::{Label, PAGE_BYTES, Run, SpanRef, addr_of, pages_for};
 /// The act at the page heap that the thread does next: it asks for a run, which decides the allocation of
 /// a large block, or of none; it frees a run, which decides the free of a large block; or it unbacks free
 /// pages, which decides a release, whose answer is how many pages lost their backing.
-pub fn act_heap<F: FrontEnd>(setting: &Setting, heap: &mut PageHeap, local: &mut Local<F>)
+pub fn act_heap<F: FrontEnd, A: Answers>(
+    setting: &Setting,
+    heap: &mut PageHeap,
+    local: &mut Local<F, A>,
+)
     requires fits { FitsHeap (F.rules setting.now).calls.rows heap.old local.old local.old.step }
     requires acts { local.old.acts < 2 ^ 64 - 1 }
     ensures heap { heap.new ≡ (heap_after (F.rules setting.now).calls heap.old local.old local.old.step).0 }

@@ -3,6 +3,7 @@
 #![tactic(auto)]
 
 mod acts;
+mod answers;
 mod front;
 mod hands;
 mod heap;
@@ -14,6 +15,7 @@ mod shard;
 mod step;
 
 pub use acts::{act_front, yields};
+pub use answers::Answers;
 pub use front::FrontEnd;
 pub use heap::act_heap;
 pub use local::Local;

@@ -6,6 +6,7 @@ ghost use Rattle.call_steps.specs.Local.{next_call, first_of_call, regs_of_call,
 ghost use Rattle.call_steps.specs.Rows.{undecided, under, IsOf};
 ghost use Rattle.call_steps.specs.Kept.{target_at, IsLowWant, over};
 
+use crate::answers::Answers;
 use crate::front::FrontEnd;
 use crate::setting::Setting;
 use crate::step::{Asking, HeapStep, NamesStep, Next, ShardStep, Step, Target};
@@ -18,7 +19,7 @@ use tc_units::{Bag, Label, Listed, SpanRef, ThreadNo};
 /// A thread's script, its place in it, the next act of the call there with what the call has in hand, and
 /// the answers of the calls that were decided.
 #[derive(Drop)]
-pub struct Local<F: FrontEnd> {
+pub struct Local<F: FrontEnd, A: Answers = Bag<Answered>> {
     pub(crate) seat: F::Seat,
     script: Listed<Planned>,
     /// Calls that have ended.
@@ -30,23 +31,23 @@ pub struct Local<F: FrontEnd> {
     pub(crate) freed: Bag<SpanRef>,
     /// Acts that the thread has done.
     acts: u64,
-    answers: Bag<Answered>,
+    answers: A,
     /// Room for what comes behind an act of the front-end. Between acts it says nothing.
     pub(crate) next: Next<F::Row>,
 }
 
-impl<F: FrontEnd> Model for Local<F> {
+impl<F: FrontEnd, A: Answers> Model for Local<F, A> {
     ghost use Rattle.call_steps.specs.Local as meant;
     ghost use Rattle.call_steps.specs.Kept.{IsKept, local_of};
 
     ghost Value = { meant.Local F.Seat F.Row };
 
-    ghost view = { λ l. local_of l.seat l.script l.place l.step l.regs l.freed l.acts l.answers.items };
+    ghost view = { λ l. local_of l.seat l.script l.place l.step l.regs l.freed l.acts (A.all l.answers).items };
 
-    ghost invariant = { λ l. IsKept F.about l.script l.place l.step l.answers };
+    ghost invariant = { λ l. IsKept F.about l.script l.place l.step (A.all l.answers) };
 }
 
-impl<F: FrontEnd> Local<F> {
+impl<F: FrontEnd, A: Answers> Local<F, A> {
     /// A thread before its first act, at its seat at the start. All room for its answers, its hand and its
     /// spans is taken here.
     pub fn new(
@@ -59,7 +60,7 @@ impl<F: FrontEnd> Local<F> {
         ensures { IfOk result (λ l. l ≡ first_local (F.rules setting.now).calls thread ((F.rules setting.now).seats thread.0) script.calls) }
     {
         let Script { calls } = script;
-        let answers = Bag::open(alloc, calls.as_slice().len())?;
+        let answers = A::open(alloc, calls.as_slice().len())?;
         let freed = Bag::open(alloc, HAND_ROOM)?;
         let mut regs = Regs::open(alloc, thread)?;
         let mut seat = F::seat(setting, thread);
@@ -115,23 +116,25 @@ impl<F: FrontEnd> Local<F> {
         self.acts
     }
 
-    /// The answers of the calls that were decided, in the script's order.
-    pub fn answers(&self) -> &[Answered]
-        ensures acts { map (λ a. a.act) result.now ≡ map (λ d. d.act) self.now.answers }
-        ensures answers { map (λ a. a.answer) result.now ≡ map (λ d. d.answer) self.now.answers }
+    /// How many calls were decided.
+    pub fn decided(&self) -> usize
+        ensures { result ≡ length self.now.answers }
     {
-        self.answers.as_slice()
+        self.answers.count()
     }
 
-    /// The call that was decided behind `i` others, with its answer.
-    pub fn call_line(&self, i: usize) -> CallLine
-        requires { i < length self.now.answers }
-        ensures { Some result ≡ option_map (told self.now.regs.thread.0) (slice_get self.now.answers i) }
+    /// The call that was decided last, with its answer.
+    pub fn last_line(&self) -> CallLine
+        requires { 0 < length self.now.answers }
+        ensures { Some result ≡ option_map (told self.now.regs.thread.0) (slice_get self.now.answers (length self.now.answers - 1)) }
     {
+        let Some(answered) = self.answers.last() else {
+            unreachable!()
+        };
         CallLine {
             thread: self.regs.thread,
-            call: self.script.as_slice()[i].call,
-            answer: self.answers.as_slice()[i].answer,
+            call: self.script.as_slice()[self.answers.count() - 1].call,
+            answer: answered.answer,
         }
     }
 
@@ -223,6 +226,28 @@ impl<F: FrontEnd> Local<F> {
             &mut self.regs,
             &mut self.step,
         );
+    }
+}
+
+impl<F: FrontEnd> Local<F> {
+    /// The answers of the calls that were decided, in the script's order.
+    pub fn answers(&self) -> &[Answered]
+        ensures acts { map (λ a. a.act) result.now ≡ map (λ d. d.act) self.now.answers }
+        ensures answers { map (λ a. a.answer) result.now ≡ map (λ d. d.answer) self.now.answers }
+    {
+        self.answers.as_slice()
+    }
+
+    /// The call that was decided behind `i` others, with its answer.
+    pub fn call_line(&self, i: usize) -> CallLine
+        requires { i < length self.now.answers }
+        ensures { Some result ≡ option_map (told self.now.regs.thread.0) (slice_get self.now.answers i) }
+    {
+        CallLine {
+            thread: self.regs.thread,
+            call: self.script.as_slice()[i].call,
+            answer: self.answers.as_slice()[i].answer,
+        }
     }
 }
 

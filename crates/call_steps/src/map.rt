@@ -5,6 +5,7 @@ ghost use Rattle.call_steps.specs.declared.step.MapStep.TheVariants.{Lookup};
 ghost use Rattle.call_steps.specs.Acts.{map_after, found};
 ghost use Rattle.call_steps.specs.Fits.{FitsMap};
 
+use crate::answers::Answers;
 use crate::front::FrontEnd;
 use crate::heap::run_of;
 use crate::local::Local;
@@ -26,10 +27,10 @@ pub(crate) fn span_of(run: Run, kind: SpanKind) -> SpanRef
 }
 
 /// The act at the page map that the thread does next. Where memory is wanting, all is as before.
-pub fn act_map<F: FrontEnd>(
+pub fn act_map<F: FrontEnd, A: Answers>(
     setting: &Setting,
     map: &mut PageMap,
-    local: &mut Local<F>,
+    local: &mut Local<F, A>,
 ) -> Result<(), AllocError>
     requires fits { FitsMap map.old local.old local.old.step }
     requires acts { local.old.acts < 2 ^ 64 - 1 }
@@ -69,9 +70,9 @@ pub fn act_map<F: FrontEnd>(
 
 /// A free found the span that holds its address: an object comes to the hand, to be pushed, and the span
 /// of a large block is to be cleared.
-fn find<F: FrontEnd>(
+fn find<F: FrontEnd, A: Answers>(
     setting: &Setting,
-    local: &mut Local<F>,
+    local: &mut Local<F, A>,
     label: Label,
     addr: Addr,
     span: SpanRef,

@@ -4,6 +4,7 @@ ghost use Rattle.tc_model.specs.Steps.{acted};
 ghost use Rattle.call_steps.specs.Acts.{names_after, waits_for};
 ghost use Rattle.call_steps.specs.Fits.{FitsNames};
 
+use crate::answers::Answers;
 use crate::front::FrontEnd;
 use crate::local::Local;
 use crate::setting::Setting;
@@ -13,10 +14,10 @@ use tc_model::{Acted, Answer};
 
 /// The act at the names that the thread does next. `NotYet` exactly where it takes a label that isn't
 /// published, and then nothing changes.
-pub fn act_names<F: FrontEnd>(
+pub fn act_names<F: FrontEnd, A: Answers>(
     setting: &Setting,
     names: &mut NameTable,
-    local: &mut Local<F>,
+    local: &mut Local<F, A>,
 ) -> Acted
     requires fits { FitsNames names.old local.old.step }
     requires acts { local.old.acts < 2 ^ 64 - 1 }
@@ -46,7 +47,7 @@ pub fn act_names<F: FrontEnd>(
 }
 
 /// Whether the thread's next act takes a label that isn't published.
-pub fn waits<F: FrontEnd>(names: &NameTable, local: &Local<F>) -> bool
+pub fn waits<F: FrontEnd, A: Answers>(names: &NameTable, local: &Local<F, A>) -> bool
     requires { FitsNames names.now local.now.step }
     ensures { result ≡ waits_for names.now local.now.step }
 {

@@ -11,6 +11,7 @@ ghost use Rattle.call_steps.specs.ShardActs.{fetches, adds};
 ghost use Rattle.call_steps.specs.Acts.{shard_after};
 ghost use Rattle.call_steps.specs.Fits.{FitsBatch, FitsAdd, FitsGive, FitsShard};
 
+use crate::answers::Answers;
 use crate::front::FrontEnd;
 use crate::local::Local;
 use crate::map::span_of;
@@ -21,10 +22,10 @@ use std::alloc::AllocError;
 use tc_units::{Run, SpanKind};
 
 /// The act at the shard of its class that the thread does next. Where memory is wanting, all is as before.
-pub fn act_shard<F: FrontEnd>(
+pub fn act_shard<F: FrontEnd, A: Answers>(
     setting: &Setting,
     shard: &mut ClassShard,
-    local: &mut Local<F>,
+    local: &mut Local<F, A>,
 ) -> Result<(), AllocError>
     requires fits { FitsShard (F.rules setting.now).calls.rows shard.old local.old local.old.step }
     requires acts { local.old.acts < 2 ^ 64 - 1 }
@@ -44,10 +45,10 @@ pub fn act_shard<F: FrontEnd>(
 }
 
 /// An allocation fetches a batch, or asks for a new span.
-fn fetch<F: FrontEnd>(
+fn fetch<F: FrontEnd, A: Answers>(
     setting: &Setting,
     shard: &mut ClassShard,
-    local: &mut Local<F>,
+    local: &mut Local<F, A>,
     asking: Asking,
 )
     requires batch { FitsBatch (F.rules setting.now).calls.rows local.old.regs }
@@ -68,10 +69,10 @@ fn fetch<F: FrontEnd>(
 }
 
 /// An allocation adds its new span to the shard, and takes a batch of it.
-fn add<F: FrontEnd>(
+fn add<F: FrontEnd, A: Answers>(
     setting: &Setting,
     shard: &mut ClassShard,
-    local: &mut Local<F>,
+    local: &mut Local<F, A>,
     asking: Asking,
     run: Run,
 ) -> Result<(), AllocError>
@@ -92,10 +93,10 @@ fn add<F: FrontEnd>(
 }
 
 /// The hand is given to the shard.
-fn give<F: FrontEnd>(
+fn give<F: FrontEnd, A: Answers>(
     setting: &Setting,
     shard: &mut ClassShard,
-    local: &mut Local<F>,
+    local: &mut Local<F, A>,
     giving: Giving<F::Row>,
 )
     requires fits { FitsGive shard.old local.old }

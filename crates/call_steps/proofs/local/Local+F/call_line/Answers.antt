@@ -3,8 +3,8 @@ use Rattle.std.specs.Prelude.{Some, option_map, slice_get}
 use Rattle.std.proofs.lemmas.Option.{slice_get-get_or}
 use Rattle.call_steps.specs.Local.{Local, told}
 use Rattle.call_steps.proofs.ScriptFacts.{answered_within, decided_at}
-use Rattle.call_steps.proofs.local.Local.call_line.Given.{Over}
-use Rattle.call_steps.proofs.local.Local.call_line.Goals as goal
+use Rattle.call_steps.proofs.local.Local+F.call_line.Given.{Over}
+use Rattle.call_steps.proofs.local.Local+F.call_line.Goals as goal
 
 answered : (g : Over) (c : goal.After-as_slice g) → c.args.i < length c.self.inside.answers.items
 answered g c = let l = c.self.inside in answered_within l.script l.answers.items c.args.self.now.answers c.args.i (omega (arith, c.self.invariant.room)) (ap (λ (m : Local g.row.F-Seat.Denot g.row.F-Row.Denot). m.answers) c.self.view_is) c.requires
