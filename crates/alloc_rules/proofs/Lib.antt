@@ -45,3 +45,4 @@ pub mod Afterwards
 pub mod Laws
 pub mod ValidProp
 pub mod Orders
+pub mod Decided

@@ -15,3 +15,4 @@ pub mod Law
 pub mod Lawful
 pub mod Laws
 pub mod Scripts
+pub mod Decided
