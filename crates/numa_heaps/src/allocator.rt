@@ -12,7 +12,7 @@ use no_caches::NoCaches;
 use size_classes::ClassTable;
 use std::alloc::{AllocError, Global};
 use std::snapshot::Snapshot;
-use tc_machine::{Allocator, Listener, Opened, Teller, Totals, tell_all};
+use tc_machine::{Allocator, Listener, Opened, Recalls, Teller, Totals, tell_all};
 use tc_model::{Call, CallLine};
 use tc_units::{Listed, ThreadNo};
 use trace_reader::Trace;
@@ -111,7 +111,9 @@ impl Allocator for NumaMachine {
     fn most_picks(&self) -> u64 {
         self.setting.config.events
     }
+}
 
+impl Recalls for NumaMachine {
     fn tell<L: Listener>(
         &self,
         alloc: Global,
@@ -120,13 +122,13 @@ impl Allocator for NumaMachine {
         order: &[u16],
         listener: L,
     ) -> Result<(L, Totals), AllocError> {
-        let (listener, told) = tell_all(alloc, locals, order, listener)?;
+        let (listener, standing) = tell_all(alloc, locals, order, listener)?;
         let pages = pages_of(&self.setting, self.nodes, parts);
         let rows = rows_of_nodes(alloc, &self.setting, self.nodes, parts)?;
         let totals = Totals {
-            calls: told.calls,
-            live: told.standing.count,
-            live_bytes: told.standing.bytes,
+            calls: standing.calls,
+            live: standing.count,
+            live_bytes: standing.bytes,
             used: pages.used,
             resident: pages.resident,
             rows: Listed::new(rows),

@@ -150,7 +150,7 @@ impl NumaLocal {
         let Some(node) = self.node() else {
             unreachable!()
         };
-        waits_at::<NoCaches>(part, &self.here[usize::from(node.0)])
+        waits_at::<NoCaches, _>(part, &self.here[usize::from(node.0)])
     }
 
     /// The act at a part of the node of the call under way. Want of memory changes nothing.
@@ -203,7 +203,7 @@ fn act_there(
     ensures err { OnErr result ((part.new ≡ part.old) × (inner.new ≡ inner.old)) }
 {
     let (decided, ended) = (inner.answers().len(), inner.done());
-    match act_at::<NoCaches>(setting, part, inner)? {
+    match act_at::<NoCaches, _>(setting, part, inner)? {
         Acted::NotYet => Ok(None),
         Acted::Moved => {
             let ended = (inner.done() - ended) as usize;

@@ -1,39 +1,33 @@
 -- What a run has to tell, from what holds after its order.
-use Rattle.std.proofs.Common.{◌≡◌, ℕ, ◌+◌, ◌*◌, ◌≤◌, ◌<◌, List, ◌∷◌, [], length, map, None, Some, refl, ap, sym, subst, ◌∙◌, arith}
+use Rattle.std.proofs.Common.{◌≡◌, ℕ, ◌+◌, ◌*◌, ◌≤◌, ◌<◌, List, ◌∷◌, [], length, map, Some, refl, ap, sym, subst, ◌∙◌, arith}
 use Rattle.std.specs.Prelude.{All, sum_by}
 use Rattle.std.specs.List.{range_with_len, slice_get}
 use Rattle.std.proofs.lemmas.List.{length-set}
-use Rattle.std.proofs.lemmas.Bool.{ne_eqb}
-use Rattle.std.proofs.lemmas.List.Elements.{All-append, All-cons, All-nil, filter-append}
-use Rattle.std.proofs.lemmas.Option.{slice_get_within, slice_get_past, get_or_from_slice_get}
-use Rattle.std.proofs.lemmas.Bool.Decides.{nat_tests}
+use Rattle.std.proofs.lemmas.List.Elements.{All-append, All-cons, All-nil}
+use Rattle.std.proofs.lemmas.Option.{slice_get_within, get_or_from_slice_get}
 use Rattle.tc_units.specs.Units.{page_bytes}
 use Rattle.tc_units.specs.declared.rows.RowView.{RowView}
 use Rattle.tc_units.specs.Classes.{length_of}
 use Rattle.tc_units.specs.declared.spans.ClassRow.{ClassRow}
 use Rattle.tc_units.specs.declared.spans.Run.{Run}
 use Rattle.tc_model.specs.declared.answers.CallLine.{CallLine}
-use Rattle.tc_model.specs.Calls.{calls_from, decided_by}
-use Rattle.tc_model.specs.Replays.{HaveEnded}
 use Rattle.tc_model.specs.Blocks.{IsBlockRun}
 use Rattle.tc_model.specs.Input.{Asked}
-use Rattle.tc_model.specs.Run.{Rules, World, world_of, start, run}
-use Rattle.tc_model.specs.Steps.{moving}
-use Rattle.tc_model.proofs.MovingFacts.{IsKeptWith, run_keeps_with, move_all}
+use Rattle.tc_model.specs.Run.{Rules, World, world_of, run}
+use Rattle.tc_model.specs.Sound.{IsOrder}
+use Rattle.tc_model.proofs.MovingFacts.{IsKeptWith, run_keeps_with}
 use Rattle.heap_rules.specs.declared.config.HeapConfig.{HeapConfig}
 use Rattle.heap_rules.specs.Heap.{Heap, used_pages, backed_pages, row_of}
 use Rattle.rseq_core.specs.declared.regs.Regs.{Regs}
 use Rattle.call_steps.specs.Calls.{About}
 use Rattle.call_steps.specs.Fronts.{FrontRules}
-use Rattle.call_steps.specs.Local.{Local, Decided, told as tells}
+use Rattle.call_steps.specs.Local.{Local}
 use Rattle.alloc_rules.specs.declared.part.Part.{Part}
 use Rattle.alloc_rules.specs.declared.part.Part.TheVariants as part
 use Rattle.alloc_rules.specs.Standings.{Standing}
 use Rattle.alloc_rules.specs.Machine.{parts_of, rules}
 use Rattle.alloc_rules.specs.Law.{calls, HoldsAfter, AreLawful}
-use Rattle.alloc_rules.specs.Told.{lines_by, TellsScripts}
 use Rattle.alloc_rules.proofs.Numbers.{get_heap}
-use Rattle.alloc_rules.proofs.Orders.{order_is}
 use Rattle.tc_machine.specs.declared.standing.Standing.{Standing as Kept}
 use Rattle.tc_machine.specs.Standing.{AreStanding}
 use Rattle.tc_machine.specs.Finish.{finished_in, totals_of, heap_in}
@@ -48,24 +42,8 @@ threads_kept r n w order t l place q few good local want there goes =
     let within : t < n = omega (arith, slice_get_within w.locals t l local, good.count) in
     record { count = length-set w.locals t (r.after q l).1 ∙ good.count; below = All-append (λ u. u < n) order (t ∷ []) good.below (All-cons (λ u. u < n) t [] within (All-nil (λ u. u < n))) }
 
-pub threads_below : {P L : Type 0} (r : Rules P L) (order : List ℕ) → length order ≤ 40000000 → moving r (start r) order ≡ order → HasThreads (length r.locals) (run r order) order
-threads_below r order few moves = run_keeps_with 40000000 r (HasThreads (length r.locals)) (threads_kept r (length r.locals)) (record { count = refl; below = All-nil (λ u. u < length r.locals) }) order few (move_all r order moves)
-
--- nothing is told of a thread that isn't there
-module _ {V R : Type 0} (locals : List (Local V R)) (t : ℕ) (none : slice_get locals t ≡ None) where
-  abbrev decided : ℕ → ℕ → List CallLine
-  decided = decided_by (λ (l : Local V R). l.answers) (λ (d : Decided). d.act) tells locals
-
-  others : (u : ℕ) → (u ≡ t → ⊥) → (ds : List Decided) → lines_by t (map (tells u) ds) ≡ []
-  others u apart [] = refl
-  others u apart (d ∷ ds) = rw (ne_eqb u t apart) (others u apart ds)
-
-  silent : (u n : ℕ) → lines_by t (decided u n) ≡ []
-  silent u n = grind (arith, nat_tests, others)
-
-  no_lines : (earlier order : List ℕ) → lines_by t (calls_from decided earlier order) ≡ []
-  no_lines earlier [] = refl
-  no_lines earlier (u ∷ us) = grind (arith, no_lines (u ∷ earlier) us, filter-append, silent)
+pub threads_below : {P L : Type 0} (r : Rules P L) (order : List ℕ) → IsOrder r order → HasThreads (length r.locals) (run r order) order
+threads_below r order of = run_keeps_with 40000000 r (HasThreads (length r.locals)) (threads_kept r (length r.locals)) (record { count = refl; below = All-nil (λ u. u < length r.locals) }) order of.few of.moves
 
 module _ {P V R : Type 0} (r : FrontRules P V R) (about : R → About) (Holds : ℕ → List P → List (Standing V R) → Type 0) (asked : Asked) (order : List ℕ) where
   -- What holds tells of the parts and the locals.
@@ -88,11 +66,13 @@ heap_of {r} h within =
 
 module _ {P V R : Type 0} {r : FrontRules P V R} {about : R → About} {Holds : ℕ → List P → List (Standing V R) → Type 0} {asked : Asked} {order : List ℕ}
     {parts : List (Part P)} {locals : List (Local V R)} where
-  told_of : HoldsAfter r about Holds asked order → r.split ≤ length r.parts → world_of parts locals ≡ run (rules r about asked) order
-      → moving (rules r about asked) (start (rules r about asked)) order ≡ order → length order ≤ 40000000 → IsTold r about Holds asked order parts locals
-  told_of h within is moves few =
+  -- so does its law, in every order whose picks move
+  pub told_under : {fits : P → V → Regs → R → Type 0} {After : List ℕ → Type 0} → AreLawful r about asked fits After → (After order → HoldsAfter r about Holds asked order)
+      → r.split ≤ length r.parts → IsOrder (rules r about asked) order → world_of parts locals ≡ run (rules r about asked) order → IsTold r about Holds asked order parts locals
+  told_under laws shared within of is =
+      let h = shared (laws.holds order of) in
       let same : world_of parts locals ≡ world_of (parts_of r.split h.parts) h.locals = is ∙ h.is in
-      let t = threads_below (rules r about asked) order few moves in
+      let t = threads_below (rules r about asked) order of in
       let parts_are : parts ≡ parts_of r.split h.parts = ap (λ (w : World (Part P) (Local V R)). w.parts) same in
       let count : length locals ≡ length (rules r about asked).locals = ap (λ (w : World (Part P) (Local V R)). length w.locals) is ∙ t.count in
       record {
@@ -102,14 +82,6 @@ module _ {P V R : Type 0} {r : FrontRules P V R} {about : R → About} {Holds : 
         heap_at = ap (λ ps. slice_get ps (r.split + length r.calls.rows)) parts_are ∙ heap_of h within;
         threads = subst (λ n. All (λ u. u < n) order) (sym count) t.below;
       }
-
-  -- so does its law, in every order whose picks move
-  pub told_under : {fits : P → V → Regs → R → Type 0} {After : List ℕ → Type 0} → AreLawful r about asked fits After → (After order → HoldsAfter r about Holds asked order)
-      → r.split ≤ length r.parts → asked.config.events ≤ 40000000 → world_of parts locals ≡ run (rules r about asked) order
-      → moving (rules r about asked) (start (rules r about asked)) order ≡ order → length order ≤ asked.config.events → IsTold r about Holds asked order parts locals
-  told_under laws shared within bound is moves few =
-      let most : length order ≤ 40000000 = omega (arith, few, bound) in
-      told_of (shared (laws.holds order (order_is (rules r about asked) order moves most))) within is moves most
 
   module _ (told : IsTold r about Holds asked order parts locals) where
     calls_are : {lines : List CallLine} → lines ≡ calls locals order → lines ≡ calls told.holds.locals order
@@ -121,15 +93,6 @@ module _ {P V R : Type 0} {r : FrontRules P V R} {about : R → About} {Holds : 
 
     pub blocks_are : {rows : List ClassRow} {lines : List CallLine} → r.calls.rows ≡ rows → lines ≡ calls locals order → IsBlockRun asked.config.huge (length_of rows) lines
     blocks_are {rows} same is = grind (arith)
-
-    -- the calls tell each thread's whole script, where all scripts have ended
-    pub scripts_are : {lines : List CallLine} → HaveEnded (rules r about asked) (run (rules r about asked) order) → lines ≡ calls locals order → TellsScripts asked lines
-    scripts_are ended is =
-        let h = told.holds in
-        subst (TellsScripts asked) (sym (calls_are is)) (record {
-          each = h.all_told ended;
-          others = λ t high. no_lines h.locals t (slice_get_past h.locals t (let n = h.counts.threads in omega (arith, n, high))) [] order;
-        })
 
     module _ {heap : Heap} (there : slice_get parts (r.split + length r.calls.rows) ≡ Some (part.Heap heap)) where
       heap_is : heap ≡ told.holds.parts.heap
@@ -148,3 +111,10 @@ module _ {P V R : Type 0} {r : FrontRules P V R} {about : R → About} {Holds : 
 
         pub covered_is : used ≡ sum_by (λ (x : Run). x.pages) heap.runs → used_pages heap ≤ resident → s.bytes ≤ resident * page_bytes
         covered_is runs_are covers = grind (arith)
+
+-- of its parts alone
+pub told_by_parts : {P V R : Type 0} {r : FrontRules P V R} {about : R → About} {Holds : ℕ → List P → List (Standing V R) → Type 0} {asked : Asked} {order : List ℕ}
+    {parts : List (Part P)} {fits : P → V → Regs → R → Type 0} {After : List ℕ → Type 0} → AreLawful r about asked fits After → (After order → HoldsAfter r about Holds asked order)
+    → r.split ≤ length r.parts → IsOrder (rules r about asked) order → parts ≡ (run (rules r about asked) order).parts
+    → IsTold r about Holds asked order parts (run (rules r about asked) order).locals
+told_by_parts {r} {about} {asked} {order} laws shared within of is = told_under laws shared within of (ap (λ ps. world_of ps (run (rules r about asked) order).locals) is)

@@ -94,8 +94,8 @@ module _ (s : Standing) (line : CallLine) (huge : ℕ) (round : ℕ → ℕ) (ea
   -- what an allocation got is noted
   pub told_block : (addr : Addr) (len : ℕ) (label : Label) (size : ℕ) (s' : Standing) → line.answer ≡ Block addr len → line.call ≡ Malloc label size
       → bytes_of_label s'.lens.items label.0 ≡ option_or (bytes_of_label s.lens.items label.0) (Some len) → ((other : ℕ) → (label.0 ≡ other → ⊥) → bytes_of_label s'.lens.items other ≡ bytes_of_label s.lens.items other)
-      → s'.count ≡ s.count + 1 → s'.bytes ≡ s.bytes + len → AreStanding (earlier ++ line ∷ []) s'
-  told_block addr len label size s' is asks here others count bytes =
+      → s'.calls ≡ s.calls + 1 → s'.count ≡ s.count + 1 → s'.bytes ≡ s.bytes + len → AreStanding (earlier ++ line ∷ []) s'
+  told_block addr len label size s' is asks here others calls count bytes =
       grind (arith, nat_tests, after, len_small, noted_first, answer_same, length-with_item, sum_by-with_item, counted, length-append)
 
   -- another answer notes nothing
@@ -116,10 +116,11 @@ module _ (s : Standing) (line : CallLine) (huge : ℕ) (round : ℕ → ℕ) (ea
     pub freed_within : (frees.len ≤ s.bytes) × (1 ≤ s.count)
     freed_within = (omega (arith, stand.bytes, one.bytes), omega (arith, stand.count, one.count))
 
-    pub told_freed : (s' : Standing) → s'.lens.items ≡ s.lens.items → s'.count + 1 ≡ s.count → s'.bytes + frees.len ≡ s.bytes → AreStanding (earlier ++ line ∷ []) s'
-    told_freed s' lens count bytes =
+    pub told_freed : (s' : Standing) → s'.calls ≡ s.calls + 1 → s'.lens.items ≡ s.lens.items → s'.count + 1 ≡ s.count → s'.bytes + frees.len ≡ s.bytes → AreStanding (earlier ++ line ∷ []) s'
+    told_freed s' calls lens count bytes =
         let e : blocks_after (earlier ++ line ∷ []) ≡ without_block addr.0 (blocks_after earlier) = after ∙ ap (blocks_with (blocks_after earlier)) is in
         record {
+          calls = omega (arith, calls, stand.calls, length-append earlier (line ∷ []));
           lens = λ l. subst (λ ns. AreBytesOf (answer_to l (earlier ++ line ∷ [])) (bytes_of_label ns l)) (sym lens) (quiet_lens (λ n. subst (λ (a : Answer). AreBytesOf (Some a) n) (sym is) tt) l);
           count = omega (arith, count, stand.count, ap length e, one.count);
           bytes = omega (arith, bytes, stand.bytes, ap (sum_by (λ (x : Extent). x.len)) e, one.bytes);
@@ -127,5 +128,5 @@ module _ (s : Standing) (line : CallLine) (huge : ℕ) (round : ℕ → ℕ) (ea
           small = omega (arith, bytes, stand.small, length-append earlier (line ∷ []));
         }
 
-  pub told_other : IsQuiet line.answer → AreStanding (earlier ++ line ∷ []) s
+  pub told_other : IsQuiet line.answer → AreStanding (earlier ++ line ∷ []) (record s { calls = s.calls + 1 })
   told_other quiet = grind (arith, after, quiet_lens, counted, length-append)

@@ -7,3 +7,4 @@ pub mod Opening
 pub mod Standing
 pub mod Taken
 pub mod Telling
+pub mod Along

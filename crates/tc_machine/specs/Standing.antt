@@ -24,8 +24,9 @@ AreBytesOf None len = len ≡ None
 AreBytesOf (Some (Block addr bytes)) len = len ≡ Some bytes
 AreBytesOf (Some other) len = Unit {0}
 
--- the number and the bytes of the blocks that stand, and what is noted of each label
+-- the number of the calls, the number and the bytes of the blocks that stand, and what is noted of each label
 pub record AreStanding (earlier : List CallLine) (s : Standing) : Type 0 where
+  pub calls : s.calls ≡ length earlier
   pub lens : (label : ℕ) → AreBytesOf (answer_to label earlier) (bytes_of_label s.lens.items label)
   pub count : s.count ≡ live_count earlier
   pub bytes : s.bytes ≡ live_bytes earlier

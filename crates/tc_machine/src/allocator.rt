@@ -1,25 +1,15 @@
 //! What a machine of the allocator offers beside its acts: an opening from its options, a class table and a trace, and
 //! what a run of it tells.
-ghost use Rattle.std.specs.Prelude.{◌≡◌, ℕ, Bool, ◌*◌, ◌≤◌, List, [], length, IfOk};
-ghost use Rattle.tc_units.specs.Units.{page_bytes, huge_pages};
-ghost use Rattle.tc_units.specs.Classes.{length_of};
+ghost use Rattle.std.specs.Prelude.{◌≡◌, ℕ, Bool, ◌≤◌, List, length, IfOk};
 ghost use Rattle.tc_model.specs.declared.calls.Call.{Call as Asking};
 ghost use Rattle.tc_model.specs.declared.answers.Finished.{Finished as Told};
-ghost use Rattle.tc_model.specs.Blocks.{IsBlockRun};
 ghost use Rattle.tc_model.specs.Input.{Asked, Input};
 ghost use Rattle.tc_model.specs.Run.{Rules, world_of, start, run};
 ghost use Rattle.tc_model.specs.Steps.{moving};
-ghost use Rattle.tc_model.specs.Replays.{HaveEnded};
 ghost use Rattle.alloc_rules.specs.Inputs.{not_taken};
 ghost use Rattle.alloc_rules.specs.Machine.{turns as turns_of};
-ghost use Rattle.alloc_rules.specs.Told.{TellsScripts};
-ghost use Rattle.tc_machine.specs.Arena.{most_huge};
-ghost use Rattle.tc_machine.specs.Finish.{totals_of};
 ghost use Rattle.tc_machine.specs.Inputs.{IsRead, asked_of, input_of};
-ghost use Rattle.tc_machine.specs.Telling.{HearsEach};
 
-use crate::listener::Listener;
-use crate::totals::Totals;
 use size_classes::ClassTable;
 use std::alloc::{AllocError, Global};
 use tc_model::{Call, Machine, Serial};
@@ -82,33 +72,6 @@ pub trait Allocator: Serial + Drop {
     fn most_picks(&self) -> u64
         ensures is { result ≡ (input self.now).asked.config.events }
         ensures few { result ≤ 40000000 };
-
-    /// Tells a listener the calls of a run in the order in which they were decided, and gives what the run has to tell beside
-    /// them: how many there are, the blocks that they leave, and the heap's pages. The parts and the locals are those of the run
-    /// of the order, each pick of which moved, and all scripts have ended.
-    fn tell<L: Listener>(
-        &self,
-        alloc: Global,
-        parts: &[Self::Part],
-        locals: &[Self::Local],
-        order: &[u16],
-        listener: L,
-    ) -> Result<(L, Totals), AllocError>
-        requires run { world_of parts.now locals.now ≡ run (rules_of (options self.now) (input self.now)) order.now }
-        requires moves { moving (rules_of (options self.now) (input self.now)) (start (rules_of (options self.now) (input self.now))) order.now ≡ order.now }
-        requires few { length order.now ≤ (input self.now).asked.config.events }
-        requires ended { HaveEnded (rules_of (options self.now) (input self.now)) (run (rules_of (options self.now) (input self.now)) order.now) }
-        requires first { L.heard listener listener [] }
-        requires may { HearsEach (L.may_hear listener) (told (options self.now) (input self.now) order.now).calls }
-        ensures heard { IfOk result (λ r. L.heard listener r.0 (told (options self.now) (input self.now) order.now).calls) }
-        ensures totals { IfOk result (λ r. r.1 ≡ totals_of (told (options self.now) (input self.now) order.now)) }
-        ensures blocks { IfOk result (λ _. IsBlockRun (arena (options self.now) (input self.now)) (length_of (input self.now).rows) (told (options self.now) (input self.now) order.now).calls) }
-        ensures scripts { IfOk result (λ _. TellsScripts (input self.now).asked (told (options self.now) (input self.now) order.now).calls) }
-
-        // A live block's bytes are backed, and no more is backed than the arena has.
-        ensures covered { IfOk result (λ r. r.1.live_bytes ≤ r.1.resident * page_bytes) }
-        ensures most { IfOk result (λ r. r.1.resident ≤ huge_pages * arena (options self.now) (input self.now)) }
-        ensures arena { IfOk result (λ r. r.1.resident ≤ huge_pages * most_huge) };
 
     // Its rules, its turns and its threads are those of its options and its input.
     ghost same_rules: { (machine : Self) → Self.rules machine ≡ rules_of (options machine) (input machine) };

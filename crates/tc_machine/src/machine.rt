@@ -13,21 +13,22 @@ ghost use Rattle.tc_machine.specs.Inputs.{input_under};
 
 use alloc_rules::{LawfulFront, Part, number_of};
 use call_steps::{
-    FrontEnd, Local, Setting, act_front, act_heap, act_map, act_names, act_shard, waits, yields,
+    Answers, FrontEnd, Local, Setting, act_front, act_heap, act_map, act_names, act_shard, waits,
+    yields,
 };
 use std::alloc::{AllocError, Global};
 use std::marker::PhantomData;
 use std::snapshot::Snapshot;
-use tc_model::{Acted, Machine, PartNo, Serial};
-use tc_units::{Listed, ThreadNo};
+use tc_model::{Acted, Answered, Machine, PartNo, Serial};
+use tc_units::{Bag, Listed, Tail, ThreadNo};
 use trace_reader::Trace;
 
 /// The act of a thread at a part, whichever it is. Want of memory changes nothing.
 #[inline(always)]
-pub fn act_at<F: FrontEnd>(
+pub fn act_at<F: FrontEnd, A: Answers>(
     setting: &Setting,
     part: &mut Part<F::Part>,
-    local: &mut Local<F>,
+    local: &mut Local<F, A>,
 ) -> Result<Acted, AllocError>
     requires { Fits (F.rules setting.now).calls.rows (F.fits setting.now) part.old local.old }
     ensures part { (asked : Asked) → IfOk result (λ _. part.new ≡ (tried (rules (F.rules setting.now) F.about asked) part.old local.old).0) }
@@ -46,7 +47,7 @@ pub fn act_at<F: FrontEnd>(
 }
 
 /// Whether the act of a thread waits at a part.
-pub fn waits_at<F: FrontEnd>(part: &Part<F::Part>, local: &Local<F>) -> bool
+pub fn waits_at<F: FrontEnd, A: Answers>(part: &Part<F::Part>, local: &Local<F, A>) -> bool
     requires { (setting : Under) × Fits (F.rules setting).calls.rows (F.fits setting) part.now local.now }
     ensures { result ≡ waits part.now local.now }
 {
@@ -58,20 +59,24 @@ pub fn waits_at<F: FrontEnd>(part: &Part<F::Part>, local: &Local<F>) -> bool
 
 /// The allocator under a class table, for the calls of a trace, over the front-end F.
 #[derive(Drop)]
-pub struct AllocMachine<F: LawfulFront> {
+pub struct AllocMachine<F: LawfulFront, A: Answers = Bag<Answered>> {
     pub setting: Setting,
     /// The thread of each call, in trace order.
     pub turns: Listed<ThreadNo>,
     /// What the trace asked for, which contracts alone see.
     pub trace: Snapshot<Trace>,
     pub of: PhantomData<F>,
+    pub answers: PhantomData<A>,
     pub ghost few: { setting.config.events ≤ 40000000 },
     pub ghost same_turns: { map (λ (t : ThreadNo). t.0) turns ≡ turns_of (input_under setting trace.value).asked },
     pub ghost valid: { IsValidInput (input_under setting trace.value) } by { valid_prop (input_under setting trace.value) },
     pub ghost taken: { not_taken F.takes (input_under setting trace.value).asked.calls ≡ 0 },
 }
 
-impl<F: LawfulFront> AllocMachine<F> {
+/// The same, whose threads keep their last answers alone.
+pub type Forgetful<F> = AllocMachine<F, Tail<Answered>>;
+
+impl<F: LawfulFront, A: Answers> AllocMachine<F, A> {
     /// The number of the page heap among the parts.
     pub(crate) fn heap_place(&self) -> usize
         ensures { result ≡ (F.rules self.now.setting).split + length self.now.setting.table }
@@ -80,10 +85,10 @@ impl<F: LawfulFront> AllocMachine<F> {
     }
 }
 
-impl<F: LawfulFront> Machine for AllocMachine<F> {
+impl<F: LawfulFront, A: Answers> Machine for AllocMachine<F, A> {
     type Part = Part<F::Part>;
 
-    type Local = Local<F>;
+    type Local = Local<F, A>;
 
     ghost use Rattle.alloc_rules.specs.Machine.{rules};
     ghost use Rattle.alloc_rules.specs.Fits.{Fits};
@@ -93,7 +98,7 @@ impl<F: LawfulFront> Machine for AllocMachine<F> {
 
     ghost fits = { λ m. Fits (F.rules m.setting).calls.rows (F.fits m.setting) };
 
-    fn want(&self, local: &Local<F>) -> Option<PartNo> {
+    fn want(&self, local: &Local<F, A>) -> Option<PartNo> {
         match local.want(&self.setting) {
             Some(target) => Some(number_of(
                 F::split(&self.setting),
@@ -104,15 +109,15 @@ impl<F: LawfulFront> Machine for AllocMachine<F> {
         }
     }
 
-    fn done(&self, local: &Local<F>) -> u64 {
+    fn done(&self, local: &Local<F, A>) -> u64 {
         local.done()
     }
 
-    fn waits(&self, part: &Part<F::Part>, local: &Local<F>) -> bool {
+    fn waits(&self, part: &Part<F::Part>, local: &Local<F, A>) -> bool {
         waits_at(part, local)
     }
 
-    fn yields(&self, part: &Part<F::Part>, local: &Local<F>) -> bool {
+    fn yields(&self, part: &Part<F::Part>, local: &Local<F, A>) -> bool {
         match part {
             Part::Front(part) => yields(&self.setting, part, local),
             _ => true,
@@ -124,7 +129,7 @@ impl<F: LawfulFront> Machine for AllocMachine<F> {
         &self,
         _alloc: Global,
         part: &mut Part<F::Part>,
-        local: &mut Local<F>,
+        local: &mut Local<F, A>,
     ) -> Result<Acted, AllocError> {
         act_at(&self.setting, part, local)
     }
@@ -132,7 +137,7 @@ impl<F: LawfulFront> Machine for AllocMachine<F> {
     ghost sound = { λ m. (F.lawful (input_under m.setting m.trace.value) m.valid m.taken).sound };
 }
 
-impl<F: LawfulFront> Serial for AllocMachine<F> {
+impl<F: LawfulFront, A: Answers> Serial for AllocMachine<F, A> {
     ghost use Rattle.alloc_rules.specs.Machine as allocator;
     ghost use Rattle.tc_machine.specs.Inputs.{input_under};
 

@@ -1,24 +1,19 @@
-//! The allocator over a front-end is opened, and tells a finished run.
+//! The allocator over a front-end is opened.
 ghost use Rattle.std.specs.Prelude.{◌≡◌};
 
 use crate::allocator::{Allocator, Opened};
-use crate::finish::{heap_of, rows_of};
-use crate::listener::Listener;
 use crate::machine::AllocMachine;
 use crate::opening::{locals_of, parts_of};
-use crate::telling::tell_all;
-use crate::totals::Totals;
-use alloc_rules::{LawfulFront, Part};
-use call_steps::{Local, Setting};
+use alloc_rules::LawfulFront;
+use call_steps::{Answers, Setting};
 use size_classes::ClassTable;
 use std::alloc::{AllocError, Global};
 use std::marker::PhantomData;
 use std::snapshot::Snapshot;
 use tc_model::Call;
-use tc_units::Listed;
 use trace_reader::Trace;
 
-impl<F: LawfulFront> Allocator for AllocMachine<F> {
+impl<F: LawfulFront, A: Answers> Allocator for AllocMachine<F, A> {
     ghost use Rattle.std.specs.Prelude.{◌≡◌};
     ghost use Rattle.std.proofs.Common.{refl};
     ghost use Rattle.alloc_rules.specs.Inputs.{setting_of};
@@ -64,7 +59,7 @@ impl<F: LawfulFront> Allocator for AllocMachine<F> {
         _chosen: (),
         table: ClassTable,
         trace: Trace,
-    ) -> Result<Opened<AllocMachine<F>>, AllocError> {
+    ) -> Result<Opened<AllocMachine<F, A>>, AllocError> {
         let seen = Snapshot::of(&trace);
         let Trace {
             config,
@@ -74,12 +69,13 @@ impl<F: LawfulFront> Allocator for AllocMachine<F> {
         } = trace;
         let setting = Setting { table, config };
         let parts = parts_of::<F>(&setting, alloc, labels)?;
-        let locals = locals_of::<F>(&setting, alloc, scripts.into_vec())?;
+        let locals = locals_of::<F, A>(&setting, alloc, scripts.into_vec())?;
         let machine = AllocMachine {
             setting,
             turns,
             trace: seen,
             of: PhantomData,
+            answers: PhantomData,
         };
         Ok(Opened {
             machine,
@@ -94,27 +90,5 @@ impl<F: LawfulFront> Allocator for AllocMachine<F> {
 
     fn most_picks(&self) -> u64 {
         self.setting.config.events
-    }
-
-    fn tell<L: Listener>(
-        &self,
-        alloc: Global,
-        parts: &[Part<F::Part>],
-        locals: &[Local<F>],
-        order: &[u16],
-        listener: L,
-    ) -> Result<(L, Totals), AllocError> {
-        let (listener, told) = tell_all(alloc, locals, order, listener)?;
-        let heap = heap_of(parts, self.heap_place());
-        let rows = rows_of(alloc, heap, self.setting.config.huge)?;
-        let totals = Totals {
-            calls: told.calls,
-            live: told.standing.count,
-            live_bytes: told.standing.bytes,
-            used: heap.used_pages(),
-            resident: heap.backed_pages(),
-            rows: Listed::new(rows),
-        };
-        Ok((listener, totals))
     }
 }

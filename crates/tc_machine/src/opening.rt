@@ -7,7 +7,7 @@ ghost use Rattle.alloc_rules.specs.Machine.{heap_config, first_shards, middle_of
 ghost use Rattle.tc_machine.specs.Opening.{parts_at, locals_at};
 
 use alloc_rules::Part;
-use call_steps::{FrontEnd, Local, Setting};
+use call_steps::{Answers, FrontEnd, Local, Setting};
 use class_shard::ClassShard;
 use name_table::NameTable;
 use page_heap::{HeapConfig, PageHeap};
@@ -95,11 +95,11 @@ pub fn parts_of<F: FrontEnd>(
 }
 
 /// A thread for each script.
-pub(crate) fn locals_of<F: FrontEnd>(
+pub(crate) fn locals_of<F: FrontEnd, A: Answers>(
     setting: &Setting,
     alloc: Global,
     scripts: Vec<Script>,
-) -> Result<Vec<Local<F>>, AllocError>
+) -> Result<Vec<Local<F, A>>, AllocError>
     requires few { length scripts.items ≤ 64 }
     requires opens { F.can_open setting.now }
     ensures { IfOk result (λ locals. locals.items ≡ locals_at (F.rules setting.now) F.about scripts.items) }

@@ -11,21 +11,23 @@ use tc_units::Label;
 /// More bytes than any block has.
 const NO_BLOCK: u64 = u64::MAX;
 
-/// The blocks that stand: their number, the bytes of all, and by label the bytes of the block that its allocation got, or
-/// `NO_BLOCK`.
+/// How many calls there were, and the blocks that stand: their number, the bytes of all, and by label the bytes of the block that
+/// its allocation got, or `NO_BLOCK`.
 #[derive(Drop)]
 pub struct Standing {
+    pub calls: u64,
     pub lens: Vec<u64>,
     pub count: u64,
     pub bytes: u64,
 }
 
 impl Standing {
-    /// No block.
+    /// No call, and no block.
     pub(crate) fn new(alloc: Global) -> Self
         ensures { AreStanding [] result }
     {
         Standing {
+            calls: 0,
             lens: Vec::new(alloc),
             count: 0,
             bytes: 0,
@@ -59,6 +61,7 @@ impl Listener for Standing {
 
     #[inline(always)]
     fn hear(&mut self, line: &CallLine) -> Result<(), AllocError> {
+        self.calls += 1;
         match line.answer {
             Answer::Block { len, .. } => {
                 let Call::Malloc { label, .. } = line.call else {

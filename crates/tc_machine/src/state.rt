@@ -20,11 +20,12 @@ ghost use Rattle.tc_machine.specs.Telling.{HearsEach};
 
 use crate::allocator::{Allocator, Opened};
 use crate::listener::{Listener, Noted};
+use crate::recalls::Recalls;
 use crate::totals::Totals;
 use size_classes::ClassTable;
 use std::alloc::{AllocError, Global};
 use std::marker::Model;
-use tc_model::{Finished, Replay, Serial, StepFault, Stepped};
+use tc_model::{Finished, Replay, Serial, StepFault, Stepped, Unwatched};
 use tc_units::{Listed, ThreadNo};
 use trace_reader::Trace;
 
@@ -33,7 +34,7 @@ use trace_reader::Trace;
 #[derive(Drop)]
 pub struct State<M: Allocator> {
     pub(crate) replay: Replay<M>,
-    alloc: Global,
+    pub(crate) alloc: Global,
 }
 
 impl<M: Allocator> Model for State<M> {
@@ -104,7 +105,7 @@ impl<M: Allocator> State<M> {
         ensures same { OnErr result (self.new ≡ self.old) }
         ensures lawful { M.lawful self.new.options self.new.input self.new.order }
     {
-        self.replay.step(u16::from(thread.0))
+        self.replay.step(u16::from(thread.0), &mut Unwatched)
     }
 
     /// Ends every call: the thread of the earliest call in trace order that hasn't ended is picked, again
@@ -118,7 +119,7 @@ impl<M: Allocator> State<M> {
         ensures fault { IfErr result (IsCutShort (M.rules_of self.old.options self.old.input) self.old.input.asked.config.events (completed (M.rules_of self.old.options self.old.input) (turns self.old.input.asked) self.old.input.asked.config.events self.old.order) self.new.order) }
         ensures lawful { M.lawful self.new.options self.new.input self.new.order }
     {
-        self.replay.run_serial()
+        self.replay.run_serial(&mut Unwatched)
     }
 
     /// Picks the threads of an order file, one after another, and then ends every call. A pick of a thread
@@ -133,7 +134,7 @@ impl<M: Allocator> State<M> {
         ensures fault { IfErr result (IsCutShort (M.rules_of self.old.options self.old.input) self.old.input.asked.config.events (completed (M.rules_of self.old.options self.old.input) (turns self.old.input.asked) self.old.input.asked.config.events (followed (M.rules_of self.old.options self.old.input) self.old.input.asked.config.events self.old.order picks.now)) self.new.order) }
         ensures lawful { M.lawful self.new.options self.new.input self.new.order }
     {
-        self.replay.run_order(picks)
+        self.replay.run_order(picks, &mut Unwatched)
     }
 
     /// The threads of the picks that moved.
@@ -215,7 +216,9 @@ impl<M: Allocator> State<M> {
         let replay = Replay::gather(alloc, machine, parts, locals, order, most);
         State { replay, alloc }
     }
+}
 
+impl<M: Recalls> State<M> {
     /// Tells a listener the calls of a run whose scripts have all ended, in the order in which they were decided, and gives
     /// what the run has to tell beside them: how many there are, the blocks that they leave, and the heap's pages.
     pub fn tell<L: Listener>(&self, listener: L) -> Result<(L, Totals), AllocError>

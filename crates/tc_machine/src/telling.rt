@@ -108,41 +108,30 @@ fn next_line<T: Teller>(teller: &T, thread: ThreadNo, mark: &mut Mark) -> Option
     }
 }
 
-/// Tells a listener the calls that the picks of an order decided, in their order, and counts them. A thread's number is its
-/// place.
+/// Tells a listener the calls that the picks of an order decided, in their order. A thread's number is its place.
 fn tell_calls<T: Teller, L: Listener>(
     alloc: Global,
     tellers: &[T],
     order: &[u16],
     listener: L,
-) -> Result<(L, u64), AllocError>
+) -> Result<L, AllocError>
     requires numbers { length tellers.now ≤ 2 ^ 8 }
     requires threads { All (λ t. t < length tellers.now) order.now }
     requires few { length order.now ≤ MOST_PICKS }
     requires rising { (t : ℕ) (l : T) → slice_get tellers.now t ≡ Some l → AreRising (λ (d : Decided). d.act) 0 (T.answers l) }
     requires first { L.heard listener listener [] }
     requires may { HearsEach (L.may_hear listener) (calls_of T.answers (λ (d : Decided). d.act) told tellers.now order.now) }
-    ensures heard { IfOk result (λ r. L.heard listener r.0 (calls_of T.answers (λ (d : Decided). d.act) told tellers.now order.now)) }
-    ensures count { IfOk result (λ r. r.1 ≡ length (calls_of T.answers (λ (d : Decided). d.act) told tellers.now order.now)) }
+    ensures heard { IfOk result (λ heard. L.heard listener heard (calls_of T.answers (λ (d : Decided). d.act) told tellers.now order.now)) }
 {
     let mut marks = first_marks(alloc, tellers)?;
     let mut listener = listener;
-    let mut count = 0;
     for thread in order {
         let t = *thread as usize;
         if let Some(line) = next_line(&tellers[t], ThreadNo(t as u8), &mut marks[t]) {
             listener.hear(&line)?;
-            count += 1;
         }
     }
-    Ok((listener, count))
-}
-
-/// How many calls a run decided, and the blocks that they leave.
-#[derive(Drop)]
-pub struct Told {
-    pub calls: u64,
-    pub standing: Standing,
+    Ok(listener)
 }
 
 /// Tells a listener the calls that the picks of an order decided, in their order, and gives what they leave. They are a run on
@@ -152,7 +141,7 @@ pub fn tell_all<T: Teller, L: Listener>(
     tellers: &[T],
     order: &[u16],
     listener: L,
-) -> Result<(L, Told), AllocError>
+) -> Result<(L, Standing), AllocError>
     requires numbers { length tellers.now ≤ 2 ^ 8 }
     requires threads { All (λ t. t < length tellers.now) order.now }
     requires few { length order.now ≤ MOST_PICKS }
@@ -161,15 +150,12 @@ pub fn tell_all<T: Teller, L: Listener>(
     requires first { L.heard listener listener [] }
     requires may { HearsEach (L.may_hear listener) (calls_of T.answers (λ (d : Decided). d.act) told tellers.now order.now) }
     ensures heard { IfOk result (λ r. L.heard listener r.0 (calls_of T.answers (λ (d : Decided). d.act) told tellers.now order.now)) }
-    ensures calls { IfOk result (λ r. r.1.calls ≡ length (calls_of T.answers (λ (d : Decided). d.act) told tellers.now order.now)) }
-    ensures standing { IfOk result (λ r. AreStanding (calls_of T.answers (λ (d : Decided). d.act) told tellers.now order.now) r.1.standing) }
+    ensures standing { IfOk result (λ r. AreStanding (calls_of T.answers (λ (d : Decided). d.act) told tellers.now order.now) r.1) }
 {
     let both = Both {
         first: Standing::new(alloc),
         second: listener,
     };
-    let (both, calls) = tell_calls(alloc, tellers, order, both)?;
-    let Both { first, second } = both;
-    let standing = first;
-    Ok((second, Told { calls, standing }))
+    let Both { first, second } = tell_calls(alloc, tellers, order, both)?;
+    Ok((second, first))
 }

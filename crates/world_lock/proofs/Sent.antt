@@ -10,6 +10,11 @@ use Rattle.std.proofs.option.Option.TheSendSync as option
 use Rattle.std.proofs.marker.PhantomData.TheSendSync as phantom
 use Rattle.tc_model.proofs.board.Halt.TheSendSync as halt
 use Rattle.call_steps.proofs.setting.Setting.TheSendSync as setting
+use Rattle.call_steps.specs.contracts.answers.BagAnsweredAnswers.TheImpl as answers_impl
+use Rattle.tc_units.specs.contracts.bag.Bag as bag
+use Rattle.tc_units.proofs.bag.Bag.TheSendSync as bag_sent
+use Rattle.tc_model.specs.contracts.answers.Answered as answered
+use Rattle.tc_model.proofs.answers.Answered.TheSendSync as answered_sent
 use Rattle.tc_units.proofs.listed.Listed.TheSendSync as listed
 use Rattle.tc_units.proofs.units.ThreadNo.TheSendSync as thread
 use Rattle.std.proofs.alloc.Global.TheSendSync as global
@@ -45,17 +50,21 @@ use Rattle.world_lock.specs.contracts.world.World.TheInside as within
 snapshot_send : (Y : RattleType) → IsSend (snapshot.the_row Y)
 snapshot_send Y = record { owned = λ d vs. ((λ vss. (tt, ((λ uss. (tt, tt)), tt))), tt); leaving = λ k f vs. tt }
 
+-- the answers that a thread keeps
+abbrev answers : RattleType
+answers = bag.the_row answered.the_row
+
 -- the allocator over the per-CPU caches
 abbrev cpu_machine : RattleType
-cpu_machine = machine.the_row caches.the_row parts.the_row seats.the_row rows.the_row lawful_impl.ghosts caches_impl.ghosts
+cpu_machine = machine.the_row caches.the_row answers parts.the_row seats.the_row rows.the_row lawful_impl.ghosts caches_impl.ghosts answers_impl.ghosts
 
 abbrev cpu_local : RattleType
-cpu_local = locals.the_row caches.the_row parts.the_row seats.the_row rows.the_row caches_impl.ghosts
+cpu_local = locals.the_row caches.the_row answers parts.the_row seats.the_row rows.the_row caches_impl.ghosts answers_impl.ghosts
 
 machine_send : IsSend cpu_machine
 machine_send =
-    recorded_send (machine.the_field caches.the_row parts.the_row seats.the_row rows.the_row lawful_impl.ghosts caches_impl.ghosts).row _ _ (machine.the_type caches.the_row parts.the_row seats.the_row rows.the_row lawful_impl.ghosts caches_impl.ghosts).to_one
-    (struct_send (shape (machine.the_type caches.the_row parts.the_row seats.the_row rows.the_row lawful_impl.ghosts caches_impl.ghosts)) (setting.the_field_send, (listed.the_send _ thread.the_send, (snapshot_send trace.the_row, (phantom.the_field_send caches.the_row, tt)))))
+    recorded_send (machine.the_field caches.the_row answers parts.the_row seats.the_row rows.the_row lawful_impl.ghosts caches_impl.ghosts answers_impl.ghosts).row _ _ (machine.the_type caches.the_row answers parts.the_row seats.the_row rows.the_row lawful_impl.ghosts caches_impl.ghosts answers_impl.ghosts).to_one
+    (struct_send (shape (machine.the_type caches.the_row answers parts.the_row seats.the_row rows.the_row lawful_impl.ghosts caches_impl.ghosts answers_impl.ghosts)) (setting.the_field_send, (listed.the_send _ thread.the_send, (snapshot_send trace.the_row, (phantom.the_field_send caches.the_row, (phantom.the_field_send answers, tt))))))
 
 abbrev cpu_part : RattleType
 cpu_part = part_row.the_row parts.the_row
@@ -64,17 +73,17 @@ state_send : (m : MachineGhosts cpu_machine.Denot cpu_part.Denot cpu_local.Denot
     → IsSend (state.the_row cpu_machine Nothing cpu_part cpu_local m a s)
 state_send m a s =
     view_send _ _ _ _ _ (recorded_send (inside.the_field cpu_machine Nothing cpu_part cpu_local m a s).row _ _ (inside.the_type cpu_machine Nothing cpu_part cpu_local m a s).to_one (struct_send (shape (inside.the_type cpu_machine Nothing cpu_part cpu_local m a s))
-    (replay.the_field_send _ _ _ m machine_send (part.the_send _ front.the_send) (local.the_send caches.the_row parts.the_row _ _ caches_impl.ghosts seat.the_send row.the_send), (global.the_field_send, tt))))
+    (replay.the_field_send _ _ _ m machine_send (part.the_send _ front.the_send) (local.the_send caches.the_row answers parts.the_row _ _ caches_impl.ghosts answers_impl.ghosts (bag_sent.the_send _ answered_sent.the_send) seat.the_send row.the_send), (global.the_field_send, tt))))
 
 -- what its impls say of it, under any dictionaries
 abbrev machine_ghosts : MachineGhosts cpu_machine.Denot cpu_part.Denot cpu_local.Denot
-machine_ghosts = machine_impl.ghosts caches.the_row parts.the_row seats.the_row rows.the_row lawful_impl.ghosts (given 0) caches_impl.ghosts (given 0) (record { is_clone = λ a b. Unit {0}; is_infallible = λ a. Unit {0} }) (given 0) (given 0) (given 0)
+machine_ghosts = machine_impl.ghosts caches.the_row answers parts.the_row seats.the_row rows.the_row lawful_impl.ghosts (given 0) caches_impl.ghosts (given 0) (record { is_clone = λ a b. Unit {0}; is_infallible = λ a. Unit {0} }) (given 0) answers_impl.ghosts (given 0) (given 0) (given 0) (given 0)
 
 abbrev serial_ghosts : SerialGhosts cpu_machine.Denot cpu_part.Denot cpu_local.Denot
-serial_ghosts = serial_impl.ghosts caches.the_row parts.the_row seats.the_row rows.the_row lawful_impl.ghosts (given 0) caches_impl.ghosts (given 0) (record { is_clone = λ a b. Unit {0}; is_infallible = λ a. Unit {0} }) (given 0) (given 0) (given 0)
+serial_ghosts = serial_impl.ghosts caches.the_row answers parts.the_row seats.the_row rows.the_row lawful_impl.ghosts (given 0) caches_impl.ghosts (given 0) (record { is_clone = λ a b. Unit {0}; is_infallible = λ a. Unit {0} }) (given 0) answers_impl.ghosts (given 0) (given 0) (given 0) (given 0)
 
 abbrev allocator_ghosts : AllocatorGhosts cpu_machine.Denot Nothing.Denot cpu_part.Denot cpu_local.Denot
-allocator_ghosts = allocator_impl.ghosts caches.the_row parts.the_row seats.the_row rows.the_row lawful_impl.ghosts (given 0) caches_impl.ghosts (given 0) (record { is_clone = λ a b. Unit {0}; is_infallible = λ a. Unit {0} }) (given 0) (given 0) (given 0)
+allocator_ghosts = allocator_impl.ghosts caches.the_row answers parts.the_row seats.the_row rows.the_row lawful_impl.ghosts (given 0) caches_impl.ghosts (given 0) (record { is_clone = λ a b. Unit {0}; is_infallible = λ a. Unit {0} }) (given 0) answers_impl.ghosts (given 0) (given 0) (given 0) (given 0)
 
 world_send : (N : RattleType) (n : Ghosts N.Denot) → IsSend (world.the_row N n)
 world_send N n = view_send _ _ _ _ _ (recorded_send (within.the_field N n).row _ _ (within.the_type N n).to_one (struct_send (shape (within.the_type N n)) (state_send machine_ghosts allocator_ghosts serial_ghosts, (option.the_field_send _ halt.the_send, (phantom.the_field_send N, tt)))))

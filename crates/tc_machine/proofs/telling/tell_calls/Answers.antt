@@ -1,4 +1,4 @@
-use Rattle.std.proofs.Common.{◌≡◌, ℕ, ◌+◌, ◌<◌, get_or, ◌==◌, List, [], ◌∷◌, ◌++◌, length, take, refl, sym, ap, ◌∙◌, subst, arith}
+use Rattle.std.proofs.Common.{◌≡◌, ℕ, ◌+◌, ◌<◌, get_or, ◌==◌, List, [], ◌∷◌, ◌++◌, length, take, sym, ap, ◌∙◌, subst, arith}
 use Rattle.std.specs.List.{slice_set}
 use Rattle.std.specs.Option.{option_to_list}
 use Rattle.std.proofs.lemmas.List.{take_more, append-nil, length-take, length-append}
@@ -11,7 +11,7 @@ use Rattle.tc_machine.proofs.telling.tell_calls.Goals.{in-Some+in_ok-hear, in_de
 
 pub loop-thread-init : goal.loop-thread-init
 loop-thread-init g c =
-    (first_marks g.T.Teller.answers c.args.tellers.now c.in_ok-marks.marks.items c.in_ok-marks.ensures c.requires.rising, c.requires.first, refl, omega arith)
+    (first_marks g.T.Teller.answers c.args.tellers.now c.in_ok-marks.marks.items c.in_ok-marks.ensures c.requires.rising, c.requires.first, omega arith)
 
 pub offset_bounds-tellers-t : goal.offset_bounds-tellers-t
 offset_bounds-tellers-t g c = let below = c.requires.threads c.loop-thread.thread-index 0 c.loop-thread-test.true in omega (arith, below)
@@ -59,8 +59,7 @@ hear-requires g c =
     let one = ap option_to_list (sym c.in-Some.is) ∙ c.next_line.ensures.line in
     let added = told_next g.T.Teller.answers locals past t m.picks k (c.in-Some.line ∷ []) local (are.each t k m local mark).0 one in
     let split = told_split g.T.Teller.answers locals order i c.in-Some.line c.loop-thread-test.true added in
-    let few : length (calls past) < 40000000 = omega (arith, c.loop-thread.invariant.2, c.loop-thread.invariant.3, c.requires.few, c.loop-thread-test.true) in
-    (c.args.listener, calls past, c.loop-thread.invariant.1, c.requires.may (calls past) c.in-Some.line split.0 split.1 few)
+    (c.args.listener, calls past, c.loop-thread.invariant.1, c.requires.may (calls past) c.in-Some.line split.0 split.1 (omega (arith, c.loop-thread.invariant.2, c.requires.few, c.loop-thread-test.true)))
 
 pub loop-thread-preserved : goal.loop-thread-preserved
 loop-thread-preserved g c =

@@ -12,7 +12,7 @@ overflow_sub-self-in-Freed c =
 
 pub returns-in_ok-note-in-Block : goal.returns-in_ok-note-in-Block
 returns-in_ok-note-in-Block c before earlier stand may =
-    told_block c.args.self.now c.args.line.now may.huge may.round earlier stand may.apart may.arena may.allowed c.in-Block.addr c.in-Block.len c.in-Malloc.label c.in-Malloc.size _ c.in-Block.is c.in-Malloc.is c.in_ok-note-in-Block.ensures.here c.in_ok-note-in-Block.ensures.others refl refl
+    told_block c.args.self.now c.args.line.now may.huge may.round earlier stand may.apart may.arena may.allowed c.in-Block.addr c.in-Block.len c.in-Malloc.label c.in-Malloc.size _ c.in-Block.is c.in-Malloc.is c.in_ok-note-in-Block.ensures.here c.in_ok-note-in-Block.ensures.others refl refl refl
 
 pub returns-in-Free : goal.returns-in-Free
 returns-in-Free c before earlier stand may =
@@ -20,7 +20,7 @@ returns-in-Free c before earlier stand may =
     let noted = freed_noted s c.args.line.now may.huge may.round earlier stand may.apart may.arena may.allowed c.in-Free.label c.in-Freed.addr c.in-Freed.is c.in-Free.is in
     let within = freed_within s c.args.line.now may.huge may.round earlier stand may.apart may.arena may.allowed c.in-Free.label c.in-Freed.addr c.in-Freed.is c.in-Free.is in
     let same = read_noted s.lens.items c.in-Free.label.0 _ c.index.result.now noted c.index.ensures in
-    told_freed s c.args.line.now may.huge may.round earlier stand may.apart may.arena may.allowed c.in-Free.label c.in-Freed.addr c.in-Freed.is c.in-Free.is _ refl (omega (arith, within.1)) (omega (arith, within.0, same))
+    told_freed s c.args.line.now may.huge may.round earlier stand may.apart may.arena may.allowed c.in-Free.label c.in-Freed.addr c.in-Freed.is c.in-Free.is _ refl refl (omega (arith, within.1)) (omega (arith, within.0, same))
 
 pub returns-in_default : goal.returns-in_default
 returns-in_default c before earlier stand may =

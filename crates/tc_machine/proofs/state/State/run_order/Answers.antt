@@ -1,8 +1,8 @@
 use Rattle.std.proofs.Common.{arith}
 use Rattle.tc_machine.proofs.state.State.run_order.Goals as goal
 
-pub run_order-requires : goal.run_order-requires
-run_order-requires g c k d within = grind (arith)
+pub run_order-requires-clause-threads : goal.run_order-requires-clause-threads
+run_order-requires-clause-threads g c k d within = grind (arith)
 
 pub returns-clause-ok : goal.returns-clause-ok
 returns-clause-ok g c = grind (arith)

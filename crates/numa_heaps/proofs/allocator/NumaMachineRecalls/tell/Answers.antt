@@ -2,6 +2,7 @@ use Rattle.std.proofs.Common.{length, refl, sym, ap, ◌∙◌, subst, arith}
 use Rattle.std.proofs.lemmas.Nat.{mul-le}
 use Rattle.tc_units.specs.Classes.{length_of}
 use Rattle.tc_model.specs.Run.{World}
+use Rattle.alloc_rules.proofs.Orders.{order_is}
 use Rattle.tc_machine.specs.Inputs.{input_under}
 use Rattle.tc_machine.specs.Telling.{HearsEach}
 use Rattle.tc_machine.proofs.FinishFacts.{threads_below}
@@ -10,13 +11,13 @@ use Rattle.node_rules.specs.Numa.{NodeLocal, NodePart, numa_rules}
 use Rattle.node_rules.proofs.NodesLaw.{threads_count}
 use Rattle.numa_heaps.specs.Machine.{arena}
 use Rattle.numa_heaps.proofs.FinishFacts.{holds_after, has_heap, blocks_are, scripts_are, rising_is, told_are, totals_are, covered_is}
-use Rattle.numa_heaps.proofs.allocator.NumaMachineAllocator.tell.Goals as goal
+use Rattle.numa_heaps.proofs.allocator.NumaMachineRecalls.tell.Goals as goal
 
 pub tell_all-requires-clause-threads : goal.tell_all-requires-clause-threads
 tell_all-requires-clause-threads g c =
     let m = c.args.self.now in
     let r = numa_rules m.nodes.count (input_under m.setting m.trace.value) in
-    let t = threads_below r c.args.order.now (omega (arith, c.requires.few, m.few)) c.requires.moves in
+    let t = threads_below r c.args.order.now (order_is r c.args.order.now c.requires.moves (omega (arith, c.requires.few, m.few))) in
     let count = ap (λ (w : World NodePart (Beside NodeLocal)). length w.locals) c.requires.run in
     rw (count, t.count) t.below
 
@@ -24,7 +25,7 @@ pub tell_all-requires-clause-numbers : goal.tell_all-requires-clause-numbers
 tell_all-requires-clause-numbers g c =
     let m = c.args.self.now in
     let r = numa_rules m.nodes.count (input_under m.setting m.trace.value) in
-    let t = threads_below r c.args.order.now (omega (arith, c.requires.few, m.few)) c.requires.moves in
+    let t = threads_below r c.args.order.now (order_is r c.args.order.now c.requires.moves (omega (arith, c.requires.few, m.few))) in
     let count = ap (λ (w : World NodePart (Beside NodeLocal)). length w.locals) c.requires.run in
     omega (arith, count, t.count, threads_count m.nodes.count (input_under m.setting m.trace.value), m.valid.limits.few_threads)
 
@@ -65,7 +66,7 @@ returns-clause-totals g c =
     let h = holds_after c.args.self.now c.requires.moves c.requires.few in
     let heard = c.in_ok-listener.ensures in
     let pages = c.pages_of-pages.ensures in
-    totals_are h c.requires.run refl heard.standing heard.calls pages.used pages.resident (c.new.ensures ∙ c.in_ok-rows.ensures)
+    totals_are h c.requires.run refl heard.standing heard.standing.calls pages.used pages.resident (c.new.ensures ∙ c.in_ok-rows.ensures)
 
 pub returns-clause-blocks : goal.returns-clause-blocks
 returns-clause-blocks g c =
