@@ -1,7 +1,6 @@
 -- What a run comes to, from what the machine says of it.
-use Rattle.std.proofs.Common.{◌≡◌, ℕ, ◌+◌, ◌≤◌, Bool, true, false, cond, if◌then◌else◌, List, [], ◌∷◌, ◌++◌, length, Option, Result, Err, refl, sym, ap, subst, ◌∙◌, arith}
+use Rattle.std.proofs.Common.{◌≡◌, ℕ, ◌+◌, ◌≤◌, Bool, true, false, cond, List, [], ◌∷◌, ◌++◌, length, Result, Err, refl, sym, ap, subst, ◌∙◌, arith}
 use Rattle.std.specs.Prelude.{IfErr}
-use Rattle.std.specs.List.{flat_map}
 use Rattle.std.proofs.lemmas.Bool.Decides.{nat_tests}
 use Rattle.std.proofs.lemmas.List.{append-nil, append_assoc, length-append}
 use Rattle.std.proofs.lemmas.List.Sums.{fold-append}
@@ -16,11 +15,8 @@ use Rattle.tc_model.proofs.Longer.{polite_moves}
 use Rattle.alloc_rules.specs.Machine.{turns}
 use Rattle.tcreplay.specs.declared.outcome.End.TheVariants.{Done, Full}
 use Rattle.tcreplay.specs.declared.run.Telling.{Telling}
-use Rattle.tc_units.specs.declared.rows.RowView.{RowView}
-use Rattle.usage_report.specs.Report.{call_line, row_lines, summary_of}
-use Rattle.tc_machine.specs.declared.totals.Totals.{Totals}
-use Rattle.tc_machine.specs.Finish.{totals_of}
-use Rattle.tcreplay.specs.Verdict.{Verdict, judged_by, order_by, profile_if, text_with, told_by}
+use Rattle.tc_machine.specs.Along.{IsStopped}
+use Rattle.tcreplay.specs.Verdict.{Verdict, judged_by, order_by, told_by}
 use Rattle.tcreplay.specs.Order.{IsFilled}
 use Rattle.tcreplay.proofs.Ended.{ended_true, not_ended}
 
@@ -34,13 +30,14 @@ followed_each r limit past [] polite few = sym (append-nil past)
 followed_each r limit past (t ∷ ts) polite few =
     grind (arith, nat_tests, followed_each r limit (past ++ t ∷ []) ts, polite_moves, fold-append, length-append, append_assoc)
 
--- a text in whose turn the lines of calls, the summary, the lines of hugepages and the profile came
-pub text_is : (f : Finished) (rows : Bool) (sample : Option ℕ) (t : Totals) (views : List RowView) (lines summed told whole : List ℕ) → t ≡ totals_of f → lines ≡ flat_map call_line f.calls
-    → summed ≡ lines ++ summary_of t.calls t.live t.live_bytes t.used t.resident → views ≡ (if rows then t.rows else []) → told ≡ summed ++ row_lines views
-    → whole ≡ told ++ profile_if sample f.calls → whole ≡ text_with rows sample f
-text_is f rows sample t views lines summed told whole same of_calls of_summary of_views of_rows of_profile =
-    let calls : List ℕ = flat_map call_line f.calls in
-    grind (arith)
+-- a run at its limit hasn't ended
+pub not_done : {A : Type 0} (ticket : ℕ) → Full ticket ≡ Done → A
+not_done ticket done = absurd (cc)
+
+-- a run that was stopped would have come to some whole order
+pub some_whole : {P L : Type 0} (r : Rules P L) (limit : ℕ) (whole order : List ℕ) (fault : StepFault) → IsStopped r limit whole order fault
+    → (whole : List ℕ) × IsStopped r limit whole order fault
+some_whole r limit whole order fault stopped = (whole, stopped)
 
 -- over the rules of a machine
 module _ {P L : Type 0} (rules : Input → Rules P L) where

@@ -1,6 +1,8 @@
--- What a sampled profile is behind the calls of a run.
-use Rattle.std.specs.Prelude.{◌≡◌, ◌<◌, List, length}
+-- What a sampled profile is behind the calls of a run, and what is told beside them.
+use Rattle.std.specs.Prelude.{◌≡◌, ◌<◌, ℕ, Bool, if◌then◌else◌, List, [], ◌++◌, length}
 use Rattle.tc_model.specs.declared.answers.CallLine.{CallLine}
+use Rattle.usage_report.specs.Report.{summary_of, row_lines}
+use Rattle.tc_machine.specs.declared.totals.Totals.{Totals}
 use Rattle.heap_sample.specs.Samples.{IsFirstUse, most_calls}
 use Rattle.heap_sample.specs.Profiles.{Noted, IsProfileOf}
 
@@ -15,3 +17,7 @@ pub record MaySample (before : Noted) (earlier : List CallLine) (line : CallLine
   pub thread : line.thread.0 < length before.asked
   pub first : IsFirstUse earlier line.call
   pub few : length earlier < most_calls
+
+-- the summary of a run, and on demand a line for each hugepage
+abbrev pub totals_text : Bool → Totals → List ℕ
+totals_text rows t = summary_of t.calls t.live t.live_bytes t.used t.resident ++ row_lines (if rows then t.rows else [])

@@ -1,5 +1,5 @@
 -- What a run came to.
-use Rattle.std.specs.Prelude.{◌≡◌, ℕ, ◌≤◌, List, length, All, Some, IfSome}
+use Rattle.std.specs.Prelude.{◌≡◌, ℕ, ◌≤◌, List, length, All, None, Some, IfSome}
 use Rattle.tc_units.specs.Classes.{length_of}
 use Rattle.tc_model.specs.declared.answers.CallLine.{CallLine}
 use Rattle.tc_model.specs.declared.answers.Finished.{Finished}
@@ -34,6 +34,11 @@ AreTellable Summary calls = Unit {0}
 abbrev pub HasStep : Telling → Type 0
 HasStep (Whole rows sample) = IfSome sample (λ step. 1 ≤ step)
 HasStep Summary = Unit {0}
+
+-- no profile is told
+abbrev pub IsPlain : Telling → Type 0
+IsPlain (Whole rows sample) = sample ≡ None
+IsPlain Summary = Unit {0}
 
 -- the lines of calls of a whole text are a legal journal of what was run, by what a run of a machine tells
 abbrev pub IsJournal : (Input → List ℕ → Finished) → Telling → Input → List ℕ → Type 0

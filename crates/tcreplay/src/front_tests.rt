@@ -21,7 +21,7 @@ use std::process::Abort;
 use std::sync::Wait;
 use std::test::Fail;
 use std::thread::Threads;
-use tc_machine::{Allocator, refused_line};
+use tc_machine::{Allocator, Recalls, refused_line};
 use tc_ports::{Gate, OpenGate};
 use thread_front::ThreadMachine;
 
@@ -148,7 +148,7 @@ fn job_of<M: Allocator>(
 }
 
 /// What comes of a trace on a machine, behind first picks.
-fn ran_on<M: Allocator<Options = ()>>(
+fn ran_on<M: Allocator<Options = ()> + Recalls>(
     rt: &impl Abort,
     alloc: Global,
     text: &[u8],
@@ -259,12 +259,11 @@ fn threads_with_caches_in_three_orders(rt: HostRuntime) -> Result<(), Fail> {
 }
 
 /// What comes of a trace whose threads run on a machine under part locks, at a gate.
-fn by_threads<R: Threads + Wait + Sync + Abort, M: Allocator<Options = ()> + Sync, G: Gate + Sync>(
-    rt: &R,
-    alloc: Global,
-    gate: &G,
-    text: &[u8],
-) -> Result<Ran, Fail>
+fn by_threads<
+    R: Threads + Wait + Sync + Abort,
+    M: Allocator<Options = ()> + Recalls + Sync,
+    G: Gate + Sync,
+>(rt: &R, alloc: Global, gate: &G, text: &[u8]) -> Result<Ran, Fail>
 where
     M::Part: Send,
     M::Local: Send,

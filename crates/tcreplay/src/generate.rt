@@ -12,9 +12,9 @@ ghost use Rattle.tcreplay.specs.Generating.{IsMade, AreWritten, HasGenerated};
 
 use crate::input::{Job, load_table, trace_of};
 use crate::outcome::{End, Outcome};
-use crate::run::{Ran, Telling, run};
+use crate::run::{Ran, Telling, run_over};
 use crate::task::Workload;
-use cpu_front::CpuMachine;
+use cpu_front::CpuCaches;
 use std::alloc::Global;
 use tc_ports::{Failed, Shelf, Sink};
 
@@ -102,7 +102,7 @@ pub fn generate<F: Shelf, K: Sink, N: Sink>(
         Ok(made) => made,
         Err(end) => return Outcome::without_run(alloc, end),
     };
-    match run::<CpuMachine>(alloc, (), job, Telling::Summary) {
+    match run_over::<CpuCaches>(alloc, job, Telling::Summary) {
         Ok(ran) => write(out, notes, &text, ran),
         Err(_) => Outcome::without_run(alloc, End::Memory),
     }

@@ -10,17 +10,17 @@ ghost use Rattle.tcreplay.specs.Reads.{seen_job, IsRunnable};
 ghost use Rattle.tcreplay.specs.Ran.{HasStep, IsRan, IsRanByThreads};
 
 use crate::input::Job;
-use crate::run::{Ran, Telling, run};
+use crate::run::{Ran, Telling, run, run_over};
 use crate::task::Locks;
 use crate::workers::{run_by_one_lock, run_by_part_locks};
-use cpu_front::CpuMachine;
+use cpu_front::{CpuCaches, CpuMachine};
 use numa_heaps::{Nodes, NumaMachine};
 use std::alloc::{AllocError, Global};
 use std::sync::Wait;
 use std::thread::Threads as HasThreads;
 use tc_machine::refused_line;
 use tc_ports::Gate;
-use thread_front::ThreadMachine;
+use thread_front::{ThreadCaches, ThreadMachine};
 use trace_reader::Trace;
 
 /// What serves small objects. It makes the machine.
@@ -55,8 +55,8 @@ impl Front {
         ensures { IfOk result (IsRan (machine_of (seen_front self)) telling (seen_job job).input (order_by (machine_of (seen_front self)).rules (seen_job job))) }
     {
         match self {
-            Front::Cpus => run::<CpuMachine>(alloc, (), job, telling),
-            Front::Threads => run::<ThreadMachine>(alloc, (), job, telling),
+            Front::Cpus => run_over::<CpuCaches>(alloc, job, telling),
+            Front::Threads => run_over::<ThreadCaches>(alloc, job, telling),
             Front::Nodes(nodes) => run::<NumaMachine>(alloc, nodes, job, telling),
         }
     }

@@ -24,7 +24,7 @@ use relay::Finish;
 use std::alloc::{AllocError, Global};
 use std::sync::Wait;
 use std::thread::Threads;
-use tc_machine::{Allocator, State};
+use tc_machine::{Allocator, Recalls, State};
 use tc_model::{Halt, Turn};
 use tc_ports::Gate;
 use world_lock::Left;
@@ -131,7 +131,7 @@ where
 }
 
 /// Ends every call of what threads left, in trace order.
-fn complete<M: Allocator>(alloc: Global, came: Came<M>, telling: Telling) -> Result<Ran, AllocError>
+fn complete<M: Recalls>(alloc: Global, came: Came<M>, telling: Telling) -> Result<Ran, AllocError>
     requires left { IsLeft (M.rules_of came.state.options) came.state.input came.locks came.state came.locks came.lasts.items came.halt }
     requires valid { (classes : ℕ) × IsAsked classes came.state.input.asked }
     requires step { HasStep telling }
@@ -150,7 +150,7 @@ fn complete<M: Allocator>(alloc: Global, came: Came<M>, telling: Telling) -> Res
 
 /// Runs a job on a machine with these options by a thread for each of its threads, under a lock for each part, and then
 /// what they left.
-pub fn run_by_part_locks<R: Threads + Wait + Sync, M: Allocator + Sync, G: Gate + Sync>(
+pub fn run_by_part_locks<R: Threads + Wait + Sync, M: Recalls + Sync, G: Gate + Sync>(
     rt: &R,
     alloc: Global,
     gate: &G,

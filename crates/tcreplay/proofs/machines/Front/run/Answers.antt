@@ -11,13 +11,13 @@ use Rattle.tcreplay.specs.Seen.{seen_front}
 use Rattle.tcreplay.proofs.machines.Front.run.Goals as goal
 
 pub returns-in-Cpus : goal.returns-in-Cpus
-returns-in-Cpus c = subst (λ (f : Front). IfOk c.run.result (IsRan (machine_of (seen_front f)) c.args.telling (seen_job c.args.job).input (order_by (machine_of (seen_front f)).rules (seen_job c.args.job)))) (sym c.in-Cpus.is) c.run.ensures
+returns-in-Cpus c = subst (λ (f : Front). IfOk c.run_over.result (IsRan (machine_of (seen_front f)) c.args.telling (seen_job c.args.job).input (order_by (machine_of (seen_front f)).rules (seen_job c.args.job)))) (sym c.in-Cpus.is) c.run_over.ensures
 
 pub returns-in-Threads : goal.returns-in-Threads
-returns-in-Threads c = subst (λ (f : Front). IfOk c.run-in-Threads.result (IsRan (machine_of (seen_front f)) c.args.telling (seen_job c.args.job).input (order_by (machine_of (seen_front f)).rules (seen_job c.args.job)))) (sym c.in-Threads.is) c.run-in-Threads.ensures
+returns-in-Threads c = subst (λ (f : Front). IfOk c.run_over-in-Threads.result (IsRan (machine_of (seen_front f)) c.args.telling (seen_job c.args.job).input (order_by (machine_of (seen_front f)).rules (seen_job c.args.job)))) (sym c.in-Threads.is) c.run_over-in-Threads.ensures
 
 pub returns-in-Nodes : goal.returns-in-Nodes
-returns-in-Nodes c = subst (λ (f : Front). IfOk c.run-in-Nodes.result (IsRan (machine_of (seen_front f)) c.args.telling (seen_job c.args.job).input (order_by (machine_of (seen_front f)).rules (seen_job c.args.job)))) (sym c.in-Nodes.is) c.run-in-Nodes.ensures
+returns-in-Nodes c = subst (λ (f : Front). IfOk c.run.result (IsRan (machine_of (seen_front f)) c.args.telling (seen_job c.args.job).input (order_by (machine_of (seen_front f)).rules (seen_job c.args.job)))) (sym c.in-Nodes.is) c.run.ensures
 
-pub run-requires-clause-taken : goal.run-requires-clause-taken
-run-requires-clause-taken c = subst (λ (f : Front). not_taken (machine_of (seen_front f)).takes (asked_of c.args.job.trace).calls ≡ 0) c.in-Cpus.is c.requires.taken
+pub run_over-requires-clause-taken : goal.run_over-requires-clause-taken
+run_over-requires-clause-taken c = subst (λ (f : Front). not_taken (machine_of (seen_front f)).takes (asked_of c.args.job.trace).calls ≡ 0) c.in-Cpus.is c.requires.taken
