@@ -23,7 +23,8 @@ pub struct Opened<M: Machine> {
     pub locals: Vec<M::Local>,
 }
 
-/// A machine that is opened from its options, a class table and a trace, and tells a finished run.
+/// A machine that is opened from its options, a class table and a trace. What a run of it tells is a function of these and its
+/// order; a machine tells it behind the run (`Recalls`) or along it (`Decides`).
 pub trait Allocator: Serial + Drop {
     /// What a command says of its machine beside the trace; `()` where there is nothing to say.
     type Options: Copy;

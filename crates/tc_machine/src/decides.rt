@@ -60,6 +60,7 @@ pub trait Decides: Allocator {
     // At the start no thread has decided a call.
     ghost none_first: { (machine : Self) → map count (Self.rules machine).locals ≡ replicate (length (Self.rules machine).locals) 0 };
 
+    // Before the first pick nothing is told.
     ghost none_told: { (machine : Self) → (Self.told (Self.options machine) (Self.input machine) []).calls ≡ [] };
 
     // A pick decides no call, or one that its thread knows as the last one then, and that is told behind the others.
@@ -68,6 +69,7 @@ pub trait Decides: Allocator {
     // What is told is a run on disjoint blocks.
     ghost on_blocks: { (machine : Self) (order : List ℕ) → IsOrder (Self.rules machine) order → IsBlockRun (Self.arena (Self.options machine) (Self.input machine)) (length_of (Self.input machine).rows) (Self.told (Self.options machine) (Self.input machine) order).calls };
 
+    // Its arena is no larger than that of all nodes together.
     ghost low_arena: { (machine : Self) → Self.arena (Self.options machine) (Self.input machine) ≤ most_huge };
 
     // Where all scripts have ended, the whole script of each thread is told.
