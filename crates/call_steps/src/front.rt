@@ -1,11 +1,12 @@
 //! What a front-end is: parts of its own, a seat for each thread, and rows of calls, each an act on one
 //! part.
-ghost use Rattle.std.specs.Prelude.{◌≡◌, ◌<◌, ◌≤◌, length, take, drop, Some, None, IfOk, OnOk, OnErr};
+ghost use Rattle.std.specs.Prelude.{◌≡◌, ◌<◌, ◌≤◌, true, false, length, take, drop, Some, None, IfOk, OnOk, OnErr};
 ghost use Rattle.rseq_core.specs.declared.regs.Regs.{Regs as Registers};
 ghost use Rattle.call_steps.specs.declared.setting.Setting.{Setting as Under};
 ghost use Rattle.call_steps.specs.Calls.{About, Asks, Publishes, Frees, Other};
 ghost use Rattle.call_steps.specs.Follows.{next_of, ComesWith, HasObject, Stays};
-ghost use Rattle.call_steps.specs.Fronts.{FrontRules, IsEntry};
+ghost use Rattle.call_steps.specs.Fronts.{FrontRules, IsEntry, leaving};
+ghost use Rattle.call_steps.specs.declared.step.Next.TheVariants.{Row};
 
 use crate::setting::Setting;
 use crate::step::{Asking, Came, Freeing, Next, Serving};
@@ -132,6 +133,22 @@ pub trait FrontEnd {
         ensures stays { IfOk result (λ c. Stays c row.old row.new) }
         ensures may { IfOk result (λ c. ComesWith about (rules setting.now).refuses (HasObject (rules setting.now).calls.rows) row.old regs.new (next_of c row.new next.new)) }
         ensures err { OnErr result ((part.new ≡ part.old) × (seat.new ≡ seat.old) × (regs.new ≡ regs.old) × (row.new ≡ row.old)) };
+
+    /// The act of a row, where it can be done at once and the thread stays at that row and its part: else nothing is done.
+    fn stay(
+        _setting: &Setting,
+        _part: &mut Self::Part,
+        _seat: &Self::Seat,
+        _regs: &mut Regs,
+        _row: &Self::Row,
+    ) -> bool
+        requires { fits _setting.now _part.old _seat.now _regs.old _row.now }
+        ensures acted { result ≡ true → (rules _setting.now).acts _part.old _seat.now _regs.old _row.now ≡ leaving _part.new _seat.now _regs.new (Row _row.now) }
+        ensures place { result ≡ true → (rules _setting.now).place _seat.now _regs.new _row.now ≡ (rules _setting.now).place _seat.now _regs.old _row.now }
+        ensures same { result ≡ false → (_part.new ≡ _part.old) × (_regs.new ≡ _regs.old) }
+    {
+        false
+    }
 
     /// Whether it is polite to do the act of a row now.
     fn yields(

@@ -14,7 +14,7 @@ mod setting;
 mod shard;
 mod step;
 
-pub use acts::{act_front, yields};
+pub use acts::{act_front, stay_front, yields};
 pub use answers::Answers;
 pub use front::FrontEnd;
 pub use heap::act_heap;

@@ -9,7 +9,7 @@ ghost use Rattle.call_steps.specs.Kept.{target_at, IsLowWant, over};
 use crate::answers::Answers;
 use crate::front::FrontEnd;
 use crate::setting::Setting;
-use crate::step::{Asking, HeapStep, NamesStep, Next, ShardStep, Step, Target};
+use crate::step::{Asking, HeapStep, NamesStep, ShardStep, Step, Target};
 use rseq_core::{HAND_ROOM, Regs};
 use std::alloc::{AllocError, Global};
 use std::marker::Model;
@@ -32,8 +32,6 @@ pub struct Local<F: FrontEnd, A: Answers = Bag<Answered>> {
     /// Acts that the thread has done.
     acts: u64,
     answers: A,
-    /// Room for what comes behind an act of the front-end. Between acts it says nothing.
-    pub(crate) next: Next<F::Row>,
 }
 
 impl<F: FrontEnd, A: Answers> Model for Local<F, A> {
@@ -76,7 +74,6 @@ impl<F: FrontEnd, A: Answers> Local<F, A> {
             freed,
             acts: 0,
             answers,
-            next: Next::End,
         })
     }
 

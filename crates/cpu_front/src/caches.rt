@@ -4,7 +4,8 @@ ghost use Rattle.std.specs.Prelude.{◌≡◌, ◌<◌};
 use crate::opening::{caches_of, cpus_of};
 use call_steps::{Asking, Came, Freeing, FrontEnd, Local, Next, Serving, Setting};
 use cpu_rows::{
-    CpuFrontPart, CpuRow, CpuSeat, CpuStep, act_cpu, act_domain, place, stop_row, yields,
+    CpuFrontPart, CpuRow, CpuSeat, CpuStep, act_cpu, act_domain, place, stay_at_cpu, stop_row,
+    yields,
 };
 use rseq_core::{Regs, Seq};
 use std::alloc::{AllocError, Global};
@@ -136,6 +137,23 @@ impl FrontEnd for CpuCaches {
                 }
                 CpuRow::Cpu(_) => unreachable!(),
             },
+        }
+    }
+
+    #[inline(always)]
+    fn stay(
+        setting: &Setting,
+        part: &mut CpuFrontPart,
+        seat: &CpuSeat,
+        regs: &mut Regs,
+        row: &CpuRow,
+    ) -> bool {
+        match part {
+            CpuFrontPart::Cpu(cpu) => match row {
+                CpuRow::Cpu(row) => stay_at_cpu(&setting.table, cpu, seat, regs, row),
+                CpuRow::Domain(_) => false,
+            },
+            CpuFrontPart::Domain { .. } => false,
         }
     }
 

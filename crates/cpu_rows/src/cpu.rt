@@ -1,6 +1,6 @@
 //! The acts at a CPU: the thread's own, which it may leave for another CPU before an instruction, and those
 //! of a thread that stops it.
-ghost use Rattle.std.specs.Prelude.{◌≡◌, ◌≢◌, ◌<◌, ◌+◌, ◌-◌, ◌^◌, length, None, Some, is_some, true};
+ghost use Rattle.std.specs.Prelude.{◌≡◌, ◌≢◌, ◌<◌, ◌+◌, ◌-◌, ◌^◌, [], length, None, Some, is_some, true, false};
 ghost use Rattle.tc_model.specs.declared.calls.Call.TheVariants.{Drain};
 ghost use Rattle.cpu_slab.specs.Caps.{cap_fault};
 ghost use Rattle.rseq_core.specs.Acts as rseq;
@@ -11,16 +11,17 @@ ghost use Rattle.cpu_rows.specs.declared.row.CpuStep.TheVariants.{Grow, Take, St
 ghost use Rattle.call_steps.specs.declared.step.Next.TheVariants as next;
 ghost use Rattle.call_steps.specs.Follows.{next_of, Stays};
 ghost use Rattle.call_steps.specs.Fronts.{leaving};
+ghost use Rattle.cpu_rows.specs.declared.row.Draining.{Draining as Drains};
 ghost use Rattle.cpu_rows.specs.declared.row.Stopping.TheVariants as stopping;
-ghost use Rattle.cpu_rows.specs.CpuActs.{due, leaves_or, cpu_acts, sequence, replied, after_pop, after_stock, after_push, grew_to, stops, drains_on, took, cap_answer, started, yields_to_enter, yields_row};
-ghost use Rattle.cpu_rows.specs.CpuFits.{FitsCpu, FitsSequence, FitsSetCap, IsSequence, taken_by};
+ghost use Rattle.cpu_rows.specs.CpuActs.{due, leaves_or, cpu_acts, sequence, replied, after_pop, after_stock, after_push, grew_to, stops, drains_on, took, cap_answer, started, at_cpu_next, yields_to_enter, yields_row};
+ghost use Rattle.cpu_rows.specs.CpuFits.{FitsCpu, FitsSequence, FitsSetCap, FitsTake, IsSequence, taken_by};
 
 use crate::row::{CpuRow, CpuStep, Draining, Resizing, Stopping};
 use crate::seat::CpuSeat;
 use call_steps::{Asking, Came, Freeing, Giving, Next, Serving};
 use cpu_drain::{StopAnswer, fence, set_cap, start, stop, take_class};
 use cpu_slab::CapFault;
-use rseq_core::{CpuPart, Grew, Instructed, Regs, Reply, Seq, grow_here, instruct, leave};
+use rseq_core::{CpuPart, Grew, Instructed, Regs, Reply, Seq, grow_here, instruct, leave, run_on};
 use size_classes::ClassTable;
 use tc_model::{Answer, MoveTo};
 use tc_units::{Class, ThreadNo};
@@ -73,6 +74,47 @@ pub fn act_cpu(
         }
         _ => sequence(table, cpu, seat, regs, row, next),
     }
+}
+
+/// The act of a row at a CPU, where it can be done at once and the thread stays at that row: a sequence goes on, or a drain passes
+/// over a class without objects that isn't the last one. Else nothing is done.
+#[inline(always)]
+pub fn stay_at_cpu(
+    table: &ClassTable,
+    cpu: &mut CpuPart,
+    seat: &CpuSeat,
+    regs: &mut Regs,
+    row: &CpuStep,
+) -> bool
+    requires { FitsCpu table.now cpu.old seat.now regs.old row.now }
+    ensures acted { result ≡ true → cpu_acts table.now cpu.old seat.now regs.old row.now ≡ leaving cpu.new seat.now regs.new (at_cpu_next row.now) }
+    ensures same { result ≡ false → (cpu.new ≡ cpu.old) × (regs.new ≡ regs.old) }
+{
+    match *row {
+        CpuStep::Pop(_) | CpuStep::Stock(_) | CpuStep::Push(_) | CpuStep::PopBatch(_) => {
+            due(seat, regs.ran).is_none() && run_on(cpu, regs)
+        }
+        CpuStep::Take(Stopping::Drain(_)) => pass_over(table, cpu, regs),
+        _ => false,
+    }
+}
+
+/// A drain passes over a class without objects, if another class comes behind it.
+fn pass_over(table: &ClassTable, cpu: &mut CpuPart, regs: &mut Regs) -> bool
+    requires fits { (d : Drains) × FitsTake cpu.old regs.old (stopping.Drain d) }
+    ensures taken { result ≡ true → cpu.new ≡ drains.taken cpu.old regs.old.class.0 }
+    ensures next { result ≡ true → (regs.old.class.0 + 1 < length table.now) × (regs.new ≡ record regs.old { hand = drains.taken_to cpu.old regs.old.class.0 regs.old.hand; class = record { 0 = regs.old.class.0 + 1 } }) }
+    ensures empty { result ≡ true → (drains.taken_to cpu.old regs.old.class.0 regs.old.hand).items ≡ [] }
+    ensures same { result ≡ false → (cpu.new ≡ cpu.old) × (regs.new ≡ regs.old) }
+{
+    if u32::from(regs.class.0) + 1 >= table.len() || cpu.slab.top(regs.class) > 0 {
+        return false;
+    }
+    let thread = regs.thread;
+    let class = regs.class;
+    take_class(cpu, thread, class, &mut regs.hand);
+    regs.class = Class(regs.class.0 + 1);
+    true
 }
 
 /// The thread's move, where it comes before the next instruction.

@@ -8,7 +8,7 @@ mod part;
 mod row;
 mod seat;
 
-pub use cpu::{act_cpu, yields};
+pub use cpu::{act_cpu, stay_at_cpu, yields};
 pub use domain::act_domain;
 pub use laws::{cpu_is_lawful, holds_in_every_order};
 pub use part::CpuFrontPart;

@@ -62,7 +62,7 @@ fn judge<M: Machine>(key: &Key<M>, stall: &mut Stall<M::Part>, local: &M::Local)
     }
 }
 
-/// Acts, and enters the act. False where there is no memory.
+/// Acts, at once where the machine can, and enters the act. False where there is no memory.
 fn act_on<M: Machine>(
     alloc: Global,
     key: &Key<M>,
@@ -78,13 +78,13 @@ fn act_on<M: Machine>(
         × (local.new ≡ ((M.rules key.now.machine).after stall.old.part local.old).1) }
     ensures kept { result ≡ false → (stall.new.entries.items ≡ stall.old.entries.items) × (stall.new.part ≡ stall.old.part) × (local.new ≡ local.old) }
 {
-    match key.machine.act(alloc, &mut stall.part, local) {
-        Ok(_) => {
-            stall.entries.push_reserved(entry);
-            true
-        }
-        Err(_) => false,
+    let machine = &key.machine;
+    let part = &mut stall.part;
+    if !machine.stay(part, local) && machine.act(alloc, part, local).is_err() {
+        return false;
     }
+    stall.entries.push_reserved(entry);
+    true
 }
 
 impl<M: Machine> Parts<M> {

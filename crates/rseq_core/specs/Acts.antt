@@ -84,6 +84,11 @@ instructed p r =
     let c = instruction p r in
     acted_by In Back (record { cpu = with_cell p r c; regs = c.regs; answer = option_map_or Done c.reply Ran }) (arrival_at p r) p r
 
+-- the sequence isn't over
+abbrev pub GoesOn : Instructed → Type 0
+GoesOn (Done reply) = ⊥
+GoesOn other = Unit {0}
+
 -- Grow: the open mark is cleared, and where the CPU isn't stopped the class grows
 abbrev pub grown_there : CpuPart → ℕ → CpuPart
 grown_there p k = record p { is_open = false; slab = if is_some p.stopper then p.slab else grown p.slab k }

@@ -1,13 +1,13 @@
 //! The acts of a thread at its CPU.
-ghost use Rattle.std.specs.Prelude.{◌≡◌, ◌-◌, ◌^◌, ◌<◌, length};
+ghost use Rattle.std.specs.Prelude.{◌≡◌, ◌-◌, ◌^◌, ◌+◌, ◌<◌, true, false, min, length};
 ghost use Rattle.cpu_slab.specs.Slots.{row_at};
 ghost use Rattle.rseq_core.specs.Bags.{room};
 ghost use Rattle.rseq_core.specs.Tables.{is_pop};
 ghost use Rattle.rseq_core.specs.Agrees.{IsAble};
-ghost use Rattle.rseq_core.specs.Acts.{IsCurrent, DiffersAtMostOnce, dropped, left, instruction, with_cell, arrival_at, cpu_after, regs_after, instructed, grown_there, grew_here};
+ghost use Rattle.rseq_core.specs.Acts.{IsCurrent, DiffersAtMostOnce, dropped, left, instruction, with_cell, arrival_at, cpu_after, regs_after, instructed, GoesOn, grown_there, grew_here};
 
 use crate::answers::{Arrival, Grew, Instructed};
-use crate::cells::cell;
+use crate::cells::{cell, go_on};
 use crate::cpu_part::CpuPart;
 use crate::regs::Regs;
 use crate::sequence::{Pc, Reply};
@@ -15,6 +15,15 @@ use tc_units::Class;
 
 /// The executed instructions since a switch from which on they are not counted.
 const MOST_RAN: u32 = 256;
+
+/// The CPU has executed one instruction more, and has a sequence that was begun or not.
+#[inline(always)]
+fn note_ran(cpu: &mut CpuPart, is_open: bool)
+    ensures { cpu.new ≡ record cpu.old { ran = min 256 (cpu.old.ran + 1); is_open = is_open } }
+{
+    cpu.ran = cpu.ran.saturating_add(1).min(MOST_RAN);
+    cpu.is_open = is_open;
+}
 
 /// One instruction of a current thread.
 fn step(cpu: &mut CpuPart, regs: &mut Regs) -> Option<Reply>
@@ -25,10 +34,9 @@ fn step(cpu: &mut CpuPart, regs: &mut Regs) -> Option<Reply>
     ensures regs { regs.new ≡ (instruction cpu.old regs.old).regs }
     ensures reply { result ≡ (instruction cpu.old regs.old).reply }
 {
-    let pc = regs.pc;
+    let is_open = regs.pc == Pc::Begin || cpu.is_open;
     let reply = cell(cpu.stopper.is_some(), &mut cpu.slab, regs);
-    cpu.ran = cpu.ran.saturating_add(1).min(MOST_RAN);
-    cpu.is_open = reply.is_none() && (pc == Pc::Begin || cpu.is_open);
+    note_ran(cpu, is_open && reply.is_none());
     reply
 }
 
@@ -57,6 +65,33 @@ pub fn instruct(cpu: &mut CpuPart, regs: &mut Regs) -> Instructed
             None => Instructed::Ran,
             Some(reply) => Instructed::Done(reply),
         },
+    }
+}
+
+/// The next act of a thread with a sequence, where that doesn't end: else nothing is done.
+#[inline(always)]
+pub fn run_on(cpu: &mut CpuPart, regs: &mut Regs) -> bool
+    requires class { regs.old.class.0 < length cpu.old.slab.rows }
+    requires epoch { cpu.old.epoch < 2 ^ 64 - 1 }
+    requires ran { regs.old.ran < 2 ^ 32 - 1 }
+
+    // Of a current thread: its registers fit the row, and there is room for what it loads or pops.
+    requires able { IsCurrent regs.old.thread cpu.old regs.old → IsAble (is_pop regs.old.seq) (row_at cpu.old.slab regs.old.class.0) regs.old regs.old.pc }
+    ensures cpu { result ≡ true → cpu.new ≡ (instructed cpu.old regs.old).cpu }
+    ensures regs { result ≡ true → regs.new ≡ (instructed cpu.old regs.old).regs }
+    ensures goes_on { result ≡ true → GoesOn (instructed cpu.old regs.old).answer }
+    ensures same { result ≡ false → (cpu.new ≡ cpu.old) × (regs.new ≡ regs.old) }
+{
+    match arrive(cpu, regs) {
+        Arrival::In | Arrival::Back => true,
+        Arrival::Current => {
+            let is_open = regs.pc == Pc::Begin || cpu.is_open;
+            if !go_on(cpu.stopper.is_some(), &mut cpu.slab, regs) {
+                return false;
+            }
+            note_ran(cpu, is_open);
+            true
+        }
     }
 }
 

@@ -1,5 +1,5 @@
 //! One instruction of a sequence, on the slab and the registers.
-ghost use Rattle.std.specs.Prelude.{◌≡◌, ◌+◌, ◌-◌, ◌^◌, ◌<◌, ◌≤◌, Bool, true, false, length, Some, None};
+ghost use Rattle.std.specs.Prelude.{◌≡◌, ◌+◌, ◌-◌, ◌^◌, ◌<◌, ◌≤◌, ◌↔◌, true, false, is_some, if◌then◌else◌, length, Some, None};
 ghost use Rattle.cpu_slab.specs.Slots.{row_at, with_row};
 ghost use Rattle.rseq_core.specs.Tables.{is_pop, copy_or_commit, cell};
 ghost use Rattle.rseq_core.specs.Agrees.{IsAble};
@@ -9,22 +9,6 @@ use crate::bags;
 use crate::regs::Regs;
 use crate::sequence::{Pc, Reply};
 use cpu_slab::Slab;
-
-/// Header: looks for a stopper, and reads the top.
-fn header(stopped: bool, slab: &Slab, regs: &mut Regs) -> Option<Reply>
-    requires class { regs.old.class.0 < length slab.now.rows }
-    requires ran { regs.old.ran < 2 ^ 32 - 1 }
-    ensures regs { regs.new ≡ (cell stopped (is_pop regs.old.seq) (row_at slab.now regs.old.class.0) regs.old Header).regs }
-    ensures reply { result ≡ (cell stopped (is_pop regs.old.seq) (row_at slab.now regs.old.class.0) regs.old Header).reply }
-{
-    if stopped {
-        regs.close();
-        return Some(Reply::Stopped);
-    }
-    regs.top = slab.top(regs.class);
-    regs.go_on(Pc::Test);
-    None
-}
 
 /// So many objects are to be copied.
 fn counted(regs: &mut Regs, count: u32)
@@ -39,32 +23,19 @@ fn counted(regs: &mut Regs, count: u32)
     });
 }
 
-/// Test: compares the top with 0, or with the capacity.
-fn test(slab: &Slab, regs: &mut Regs) -> Option<Reply>
-    requires class { regs.old.class.0 < length slab.now.rows }
-    requires ran { regs.old.ran < 2 ^ 32 - 1 }
-    requires top { regs.old.top ≡ (row_at slab.now regs.old.class.0).top }
-    requires pc { regs.old.pc ≡ Test }
-    ensures regs { (stopped : Bool) → regs.new ≡ (cell stopped (is_pop regs.old.seq) (row_at slab.now regs.old.class.0) regs.old regs.old.pc).regs }
-    ensures reply { (stopped : Bool) → result ≡ (cell stopped (is_pop regs.old.seq) (row_at slab.now regs.old.class.0) regs.old regs.old.pc).reply }
+/// For how many objects there is room in the hand of a pop, or in the slab of a push: those that there are, or the capacity that
+/// is left.
+fn left(slab: &Slab, regs: &Regs) -> u32
+    requires class { regs.now.class.0 < length slab.now.rows }
+    requires top { regs.now.top ≡ (row_at slab.now regs.now.class.0).top }
+    ensures left { result ≡ (if is_pop regs.now.seq then regs.now.top else (row_at slab.now regs.now.class.0).cap - regs.now.top) }
+    ensures none { (result ≡ 0) ↔ (is_some (cell false (is_pop regs.now.seq) (row_at slab.now regs.now.class.0) regs.now Test).reply ≡ true) }
 {
     if regs.is_pop() {
-        if regs.top == 0 {
-            regs.close();
-            return Some(Reply::Empty);
-        }
-        let count = regs.wanted(regs.top);
-        counted(regs, count);
-        return None;
+        regs.top
+    } else {
+        slab.cap(regs.class) - regs.top
     }
-    let cap = slab.cap(regs.class);
-    if regs.top == cap {
-        regs.close();
-        return Some(Reply::Full);
-    }
-    let count = regs.wanted(cap - regs.top);
-    counted(regs, count);
-    None
 }
 
 /// One more object is copied.
@@ -141,6 +112,63 @@ fn commit_push(slab: &mut Slab, regs: &mut Regs) -> Reply
     Reply::Pushed { count }
 }
 
+/// One instruction of the sequence in the registers, where that goes on behind it: else nothing is done.
+#[inline(always)]
+pub(crate) fn go_on(stopped: bool, slab: &mut Slab, regs: &mut Regs) -> bool
+    requires class { regs.old.class.0 < length slab.old.rows }
+    requires ran { regs.old.ran < 2 ^ 32 - 1 }
+    requires able { IsAble (is_pop regs.old.seq) (row_at slab.old regs.old.class.0) regs.old regs.old.pc }
+    ensures slab { result ≡ true → slab.new ≡ with_row slab.old regs.old.class.0 (cell stopped (is_pop regs.old.seq) (row_at slab.old regs.old.class.0) regs.old regs.old.pc).row }
+    ensures regs { result ≡ true → regs.new ≡ (cell stopped (is_pop regs.old.seq) (row_at slab.old regs.old.class.0) regs.old regs.old.pc).regs }
+    ensures goes_on { result ≡ true → (cell stopped (is_pop regs.old.seq) (row_at slab.old regs.old.class.0) regs.old regs.old.pc).reply ≡ None }
+    ensures ends { result ≡ false → is_some (cell stopped (is_pop regs.old.seq) (row_at slab.old regs.old.class.0) regs.old regs.old.pc).reply ≡ true }
+    ensures same { result ≡ false → (slab.new ≡ slab.old) × (regs.new ≡ regs.old) }
+{
+    match regs.pc {
+        Pc::Begin => regs.go_on(Pc::Header),
+        Pc::Header if stopped => return false,
+        Pc::Header => {
+            regs.top = slab.top(regs.class);
+            regs.go_on(Pc::Test);
+        }
+        Pc::Test => {
+            let left = left(slab, regs);
+            if left == 0 {
+                return false;
+            }
+            let count = regs.wanted(left);
+            counted(regs, count);
+        }
+        Pc::Copy { done } if regs.is_pop() => load(slab, regs, done),
+        Pc::Copy { done } => store(slab, regs, done),
+        Pc::Commit => return false,
+    }
+    true
+}
+
+/// The instruction that ends the sequence in the registers, where the next one does.
+fn end(stopped: bool, slab: &mut Slab, regs: &mut Regs) -> Reply
+    requires class { regs.old.class.0 < length slab.old.rows }
+    requires ran { regs.old.ran < 2 ^ 32 - 1 }
+    requires able { IsAble (is_pop regs.old.seq) (row_at slab.old regs.old.class.0) regs.old regs.old.pc }
+    requires ends { is_some (cell stopped (is_pop regs.old.seq) (row_at slab.old regs.old.class.0) regs.old regs.old.pc).reply ≡ true }
+    ensures slab { slab.new ≡ with_row slab.old regs.old.class.0 (cell stopped (is_pop regs.old.seq) (row_at slab.old regs.old.class.0) regs.old regs.old.pc).row }
+    ensures regs { regs.new ≡ (cell stopped (is_pop regs.old.seq) (row_at slab.old regs.old.class.0) regs.old regs.old.pc).regs }
+    ensures reply { Some result ≡ (cell stopped (is_pop regs.old.seq) (row_at slab.old regs.old.class.0) regs.old regs.old.pc).reply }
+{
+    let pops = regs.is_pop();
+    let reply = match regs.pc {
+        Pc::Commit if pops => return commit_pop(slab, regs),
+        Pc::Commit => return commit_push(slab, regs),
+        Pc::Test if pops => Reply::Empty,
+        Pc::Test => Reply::Full,
+        Pc::Header => Reply::Stopped,
+        Pc::Begin | Pc::Copy { .. } => unreachable!(),
+    };
+    regs.close();
+    reply
+}
+
 /// One instruction of the sequence in the registers.
 pub(crate) fn cell(stopped: bool, slab: &mut Slab, regs: &mut Regs) -> Option<Reply>
     requires class { regs.old.class.0 < length slab.old.rows }
@@ -150,25 +178,9 @@ pub(crate) fn cell(stopped: bool, slab: &mut Slab, regs: &mut Regs) -> Option<Re
     ensures regs { regs.new ≡ (cell stopped (is_pop regs.old.seq) (row_at slab.old regs.old.class.0) regs.old regs.old.pc).regs }
     ensures reply { result ≡ (cell stopped (is_pop regs.old.seq) (row_at slab.old regs.old.class.0) regs.old regs.old.pc).reply }
 {
-    match regs.pc {
-        Pc::Begin => {
-            regs.go_on(Pc::Header);
-            None
-        }
-        Pc::Header => header(stopped, slab, regs),
-        Pc::Test => test(slab, regs),
-        Pc::Copy { done } => {
-            if regs.is_pop() {
-                load(slab, regs, done);
-            } else {
-                store(slab, regs, done);
-            }
-            None
-        }
-        Pc::Commit => Some(if regs.is_pop() {
-            commit_pop(slab, regs)
-        } else {
-            commit_push(slab, regs)
-        }),
+    if go_on(stopped, slab, regs) {
+        None
+    } else {
+        Some(end(stopped, slab, regs))
     }
 }

@@ -12,7 +12,7 @@ mod laws;
 mod regs;
 mod sequence;
 
-pub use acts::{grow_here, instruct, leave};
+pub use acts::{grow_here, instruct, leave, run_on};
 pub use answers::{Arrival, Grew, Instructed};
 pub use cpu_part::CpuPart;
 pub use laws::sequences_are_whole;

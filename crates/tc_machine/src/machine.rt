@@ -13,8 +13,8 @@ ghost use Rattle.tc_machine.specs.Inputs.{input_under};
 
 use alloc_rules::{LawfulFront, Part, number_of};
 use call_steps::{
-    Answers, FrontEnd, Local, Setting, act_front, act_heap, act_map, act_names, act_shard, waits,
-    yields,
+    Answers, FrontEnd, Local, Setting, act_front, act_heap, act_map, act_names, act_shard,
+    stay_front, waits, yields,
 };
 use std::alloc::{AllocError, Global};
 use std::marker::PhantomData;
@@ -132,6 +132,14 @@ impl<F: LawfulFront, A: Answers> Machine for AllocMachine<F, A> {
         local: &mut Local<F, A>,
     ) -> Result<Acted, AllocError> {
         act_at(&self.setting, part, local)
+    }
+
+    #[inline(always)]
+    fn stay(&self, part: &mut Part<F::Part>, local: &mut Local<F, A>) -> bool {
+        match part {
+            Part::Front(part) => stay_front(&self.setting, part, local),
+            _ => false,
+        }
     }
 
     ghost sound = { λ m. (F.lawful (input_under m.setting m.trace.value) m.valid m.taken).sound };
