@@ -222,21 +222,21 @@ module _ (replay : Replay) where
       → IsJobRead replay t u f g result
   job_trace = trace_err (Some replay.front) (job_with replay) (job_early replay) seen_job replay.classes (file_of replay.schedule)
 
-  without_file : (t u : Reading) (f g h : Shelving) (rows : List ClassRow) (trace : Trace) (picks : Vec ℕ Global) → file_of replay.schedule ≡ None
+  without_file : (t u : Reading) (f g h : Shelving) (rows : List ClassRow) (trace : Trace) (picks room : Vec ℕ Global) → file_of replay.schedule ≡ None
       → IsLoad (λ (rows : List ClassRow). rows) rows_in replay.classes f g (Ok rows) → IsTraceRead (Some replay.front) rows t u (Ok trace) → h ≡ g
-      → picks.items ≡ [] → IsJobRead replay t u f h (Ok (record { table = rows; trace = trace; picks = picks }))
-  without_file t u f g h rows trace picks none load read same empty =
-      let job : Job = record { table = rows; trace = trace; picks = picks } in
+      → picks.items ≡ [] → IsJobRead replay t u f h (Ok (record { table = rows; trace = trace; picks = picks; room = room }))
+  without_file t u f g h rows trace picks room none load read same empty =
+      let job : Job = record { table = rows; trace = trace; picks = picks; room = room } in
       let gives : (given : Given) → given.came ≡ [] → job_with replay given rows (asked_of trace) ≡ Ok (seen_job job) = λ given came. no_picks replay rows (asked_of trace) none given came ∙ ap (λ p. Ok (job_made rows (asked_of trace) p)) (sym empty) in
       subst (λ (s : Shelving). IsJobRead replay t u f s (Ok job)) (sym same) (read_without (Some replay.front) (job_with replay) (job_early replay) seen_job replay.classes (file_of replay.schedule) t u f g rows trace job none load read gives)
 
-  pub job_ok : (order : Option (List ℕ)) (t u : Reading) (f g h : Shelving) (rows : List ClassRow) (trace : Trace) (picks : Vec ℕ Global)
+  pub job_ok : (order : Option (List ℕ)) (t u : Reading) (f g h : Shelving) (rows : List ClassRow) (trace : Trace) (picks room : Vec ℕ Global)
       → file_of replay.schedule ≡ order → IsLoad (λ (rows : List ClassRow). rows) rows_in replay.classes f g (Ok rows)
       → IsTraceRead (Some replay.front) rows t u (Ok trace) → ArePicks order trace.config.threads g h (Ok picks)
-      → IsJobRead replay t u f h (Ok (record { table = rows; trace = trace; picks = picks }))
-  job_ok None t u f g h rows trace picks named load read are = without_file t u f g h rows trace picks named load read are.0 are.1
-  job_ok (Some name) t u f g h rows trace picks named load read are =
-      let job : Job = record { table = rows; trace = trace; picks = picks } in
+      → IsJobRead replay t u f h (Ok (record { table = rows; trace = trace; picks = picks; room = room }))
+  job_ok None t u f g h rows trace picks room named load read are = without_file t u f g h rows trace picks room named load read are.0 are.1
+  job_ok (Some name) t u f g h rows trace picks room named load read are =
+      let job : Job = record { table = rows; trace = trace; picks = picks; room = room } in
       read_with (Some replay.front) (job_with replay) (job_early replay) seen_job replay.classes (file_of replay.schedule) items_of picks_in job_made name named (named_picks replay name named) t u f g h rows trace picks job refl load read are
 
   pub job_picks : (order : Option (List ℕ)) (t u : Reading) (f g h : Shelving) (rows : List ClassRow) (trace : Trace) (end : End) (result : Result Job End)

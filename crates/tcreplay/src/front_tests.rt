@@ -144,6 +144,7 @@ fn job_of<M: Allocator>(
         table,
         trace,
         picks,
+        room: Vec::new(alloc),
     })
 }
 

@@ -37,11 +37,11 @@ fn make<F: Shelf>(alloc: Global, workload: Workload, files: &mut F) -> Result<Ma
         return Err(End::Memory);
     };
     let trace = trace_of(alloc, &table, &text)?;
-    let picks = Vec::new(alloc);
     let job = Job {
         table,
         trace,
-        picks,
+        picks: Vec::new(alloc),
+        room: Vec::new(alloc),
     };
     Ok(Made { text, job })
 }

@@ -30,6 +30,8 @@ pub struct Job {
     pub trace: Trace,
     /// The threads that the order file picks; none where no order is named.
     pub picks: Vec<u16>,
+    /// Bytes that nobody needs any more, in whose room the text is written: those of the trace.
+    pub room: Vec<u8>,
 }
 
 /// What is judged: a journal of the calls of a trace, under a class table.
@@ -107,19 +109,24 @@ fn trace_for(
     }
 }
 
-/// What the rest of a source asks for under a class table, of the machine that is to run it, where one is.
+/// What the rest of a source asks for under a class table, of the machine that is to run it, where one is. Its bytes are left
+/// in the room.
 fn load_trace<S: Source>(
     alloc: Global,
     runner: Option<Front>,
     table: &ClassTable,
     source: &mut S,
+    room: &mut Vec<u8>,
 ) -> Result<Trace, End>
     ensures asked { IsTraceRead (option_map seen_front runner) table.now (S.seen source.old) (S.seen source.new) result }
     ensures read { IfOk result (λ trace. IsRead (length table.now) trace (asked_of trace)) }
     ensures taken { IfOk result (IsTakenBy (option_map seen_front runner)) }
 {
     match read_all(alloc, source, MOST_TRACE_BYTES) {
-        Ok(text) => trace_for(alloc, runner, table, &text),
+        Ok(text) => {
+            *room = text;
+            trace_for(alloc, runner, table, room)
+        }
         Err(ReadAllFault::ReadFault) => Err(End::ReadFault),
         Err(ReadAllFault::TooLong) => {
             let limit = MOST_TRACE_BYTES;
@@ -175,12 +182,14 @@ pub fn read_job<S: Source, F: Shelf>(
     ensures taken { IfOk result (λ job. IsTakenBy (Some (seen_front replay.entry.front)) job.trace) }
 {
     let table = load_table(alloc, replay.classes, files)?;
-    let trace = load_trace(alloc, Some(replay.front), &table, source)?;
+    let mut room = Vec::new(alloc);
+    let trace = load_trace(alloc, Some(replay.front), &table, source, &mut room)?;
     let picks = load_picks(alloc, replay.schedule.file(), trace.config.threads, files)?;
     Ok(Job {
         table,
         trace,
         picks,
+        room,
     })
 }
 
@@ -195,7 +204,9 @@ pub fn read_audit<S: Source, F: Shelf>(
     ensures valid { IfOk result (λ job. IsRead (length job.table) job.trace (asked_of job.trace)) }
 {
     let table = load_table(alloc, audit.classes, files)?;
-    let trace = load_trace(alloc, None, &table, source)?;
+    let mut room = Vec::new(alloc);
+    let trace = load_trace(alloc, None, &table, source, &mut room)?;
+    drop(room);
     let journal = load_file(alloc, audit.journal, MOST_TRACE_BYTES, files)?;
     Ok(AuditJob {
         table,

@@ -31,7 +31,7 @@ use std::alloc::{AllocError, Global};
 use tc_machine::{AllocMachine, Allocator, Decides, Forgetful, Recalls, State, Totals};
 use tc_model::StepFault;
 use tc_units::RowView;
-use usage_report::{Summary, push_rows, push_summary, roomy_text};
+use usage_report::{Summary, push_rows, push_summary, roomy_text, text_in};
 
 /// What is told of a run that has ended.
 #[derive(Clone, Copy, Debug)]
@@ -262,18 +262,20 @@ pub fn run<M: Recalls>(
         table,
         trace,
         picks,
+        room,
     } = job;
+    drop(room);
     let mut state = State::<M>::open(alloc, options, table, trace)?;
     let completed = state.run_order(&picks);
     come_to(alloc, state, completed, telling)
 }
 
-/// The text of a run, whose calls are told as they are decided.
+/// The text of a run, whose calls are told as they are decided. It is written in this room.
 fn whole_along<M: Decides>(
-    alloc: Global,
     state: &mut State<M>,
     picks: &[u16],
     rows: bool,
+    room: Vec<u8>,
 ) -> Result<Vec<u8>, StepFault>
     requires threads { All (λ t. t < state.old.input.asked.config.threads) picks.now }
     requires start { state.old.order ≡ [] }
@@ -287,7 +289,7 @@ fn whole_along<M: Decides>(
     ensures scripts { OnOk result (TellsScripts state.new.input.asked (told_at M.told state.new).calls) }
     ensures full { IfErr result (IsStopped (M.rules_of state.old.options state.old.input) state.old.input.asked.config.events (order_by (M.rules_of state.old.options) (record { input = state.old.input; picks = picks.now })) state.new.order) }
 {
-    let Ok(text) = roomy_text(alloc, state.calls(), 0) else {
+    let Ok(text) = text_in(room, state.calls(), 0) else {
         return Err(StepFault::Memory);
     };
     let (lines, totals) = match state.tell_order(picks, Lines { text }) {
@@ -331,12 +333,13 @@ fn brief_along<M: Decides>(
     }
 }
 
-/// What is told of a run, whose calls are told as they are decided.
+/// What is told of a run, whose calls are told as they are decided, each as a line in this room where all are.
 fn told_along<M: Decides>(
     alloc: Global,
     state: &mut State<M>,
     picks: &[u16],
     telling: Telling,
+    room: Vec<u8>,
 ) -> Result<Vec<u8>, StepFault>
     requires plain { IsPlain telling }
     requires threads { All (λ t. t < state.old.input.asked.config.threads) picks.now }
@@ -352,7 +355,7 @@ fn told_along<M: Decides>(
     ensures full { IfErr result (IsStopped (M.rules_of state.old.options state.old.input) state.old.input.asked.config.events (order_by (M.rules_of state.old.options) (record { input = state.old.input; picks = picks.now })) state.new.order) }
 {
     match telling {
-        Telling::Whole { rows, .. } => whole_along(alloc, state, picks, rows),
+        Telling::Whole { rows, .. } => whole_along(state, picks, rows, room),
         Telling::Summary => brief_along(alloc, state, picks),
     }
 }
@@ -373,9 +376,10 @@ fn run_along<M: Decides>(
         table,
         trace,
         picks,
+        room,
     } = job;
     let mut state = State::<M>::open(alloc, options, table, trace)?;
-    match told_along(alloc, &mut state, &picks, telling) {
+    match told_along(alloc, &mut state, &picks, telling, room) {
         Ok(text) => Ok(end(state, telling, text)),
         Err(fault) => stop(alloc, state, fault),
     }

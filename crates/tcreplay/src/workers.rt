@@ -170,7 +170,9 @@ where
         table,
         trace,
         picks: _,
+        room,
     } = job;
+    drop(room);
     let events = trace.config.events;
     let state = State::<M>::open(alloc, options, table, trace)?;
     let came = run_under_part_locks(rt, alloc, gate, state, events)?;
@@ -193,7 +195,9 @@ pub fn run_by_one_lock<R: Threads + Wait + Sync, G: Gate + Sync>(
         table,
         trace,
         picks: _,
+        room,
     } = job;
+    drop(room);
     let state = CpuState::open(alloc, (), table, trace)?;
     let came = run_under_one_lock(rt, alloc, gate, state)?;
     complete(alloc, came, telling)

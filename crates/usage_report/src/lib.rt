@@ -12,6 +12,6 @@ mod words;
 
 pub use lines::push_call_line;
 pub use rows::push_rows;
-pub use text::{report, roomy_text, summary};
+pub use text::{report, roomy_text, summary, text_in};
 pub use totals::{Summary, push_summary};
 pub use words::{push_counted, push_lettered, push_number};

@@ -24,11 +24,21 @@ const SUMMARY_BYTES: usize = 160;
 pub fn roomy_text(alloc: Global, calls: usize, rows: usize) -> Result<Vec<u8>, AllocError>
     ensures { IfOk result (λ text. text.items ≡ []) }
 {
+    text_in(Vec::new(alloc), calls, rows)
+}
+
+/// The same, in the room of bytes that nobody needs any more, which are dropped.
+pub fn text_in(bytes: Vec<u8>, calls: usize, rows: usize) -> Result<Vec<u8>, AllocError>
+    ensures { IfOk result (λ text. text.items ≡ []) }
+{
     let calls = calls.checked_mul(CALL_BYTES).ok_or(AllocError)?;
     let rows = rows.checked_mul(ROW_BYTES).ok_or(AllocError)?;
     let lines = calls.checked_add(rows).ok_or(AllocError)?;
     let room = lines.checked_add(SUMMARY_BYTES).ok_or(AllocError)?;
-    Vec::with_capacity(alloc, room)
+    let mut text = bytes;
+    text.clear();
+    text.reserve(room)?;
+    Ok(text)
 }
 
 /// The text of a finished run: its calls' lines in order, the summary, and with `rows` a line for each

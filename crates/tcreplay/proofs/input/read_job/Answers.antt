@@ -13,4 +13,4 @@ pub returns-in_err-picks-clause-read : goal.returns-in_err-picks-clause-read
 returns-in_err-picks-clause-read g c = job_picks (seen_replay c.args.replay) _ _ _ _ _ _ c.in_ok-table.table c.in_ok-trace.trace c.in_err-picks.field-0.0 _ (sym c.file.ensures) c.from_residual-in_err-picks.ensures.1 c.in_ok-table.ensures c.in_ok-trace.ensures.asked c.in_err-picks.ensures.picks
 
 pub returns-clause-read : goal.returns-clause-read
-returns-clause-read g c = job_ok (seen_replay c.args.replay) _ _ _ _ _ _ c.in_ok-table.table c.in_ok-trace.trace c.in_ok-picks.picks (sym c.file.ensures) c.in_ok-table.ensures c.in_ok-trace.ensures.asked c.in_ok-picks.ensures.picks
+returns-clause-read g c = job_ok (seen_replay c.args.replay) _ _ _ _ _ _ c.in_ok-table.table c.in_ok-trace.trace c.in_ok-picks.picks _ (sym c.file.ensures) c.in_ok-table.ensures c.in_ok-trace.ensures.asked c.in_ok-picks.ensures.picks
