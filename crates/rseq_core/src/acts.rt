@@ -80,6 +80,7 @@ pub fn run_on(cpu: &mut CpuPart, regs: &mut Regs) -> bool
     ensures cpu { result ≡ true → cpu.new ≡ (instructed cpu.old regs.old).cpu }
     ensures regs { result ≡ true → regs.new ≡ (instructed cpu.old regs.old).regs }
     ensures goes_on { result ≡ true → GoesOn (instructed cpu.old regs.old).answer }
+    ensures ends { result ≡ false → GoesOn (instructed cpu.old regs.old).answer → ⊥ }
     ensures same { result ≡ false → (cpu.new ≡ cpu.old) × (regs.new ≡ regs.old) }
 {
     match arrive(cpu, regs) {
