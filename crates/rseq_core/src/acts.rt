@@ -68,7 +68,7 @@ pub fn instruct(cpu: &mut CpuPart, regs: &mut Regs) -> Instructed
     }
 }
 
-/// The next act of a thread with a sequence, where that doesn't end: else nothing is done.
+/// The next act of a thread with a sequence, where the sequence doesn't end with it: else nothing is done.
 #[inline(always)]
 pub fn run_on(cpu: &mut CpuPart, regs: &mut Regs) -> bool
     requires class { regs.old.class.0 < length cpu.old.slab.rows }

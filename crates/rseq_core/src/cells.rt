@@ -23,12 +23,11 @@ fn counted(regs: &mut Regs, count: u32)
     });
 }
 
-/// For how many objects there is room in the hand of a pop, or in the slab of a push: those that there are, or the capacity that
-/// is left.
-fn left(slab: &Slab, regs: &Regs) -> u32
+/// The most objects that a sequence can copy: for a pop those that there are, for a push the capacity above them.
+fn available(slab: &Slab, regs: &Regs) -> u32
     requires class { regs.now.class.0 < length slab.now.rows }
     requires top { regs.now.top ≡ (row_at slab.now regs.now.class.0).top }
-    ensures left { result ≡ (if is_pop regs.now.seq then regs.now.top else (row_at slab.now regs.now.class.0).cap - regs.now.top) }
+    ensures count { result ≡ (if is_pop regs.now.seq then regs.now.top else (row_at slab.now regs.now.class.0).cap - regs.now.top) }
     ensures none { (result ≡ 0) ↔ (is_some (cell false (is_pop regs.now.seq) (row_at slab.now regs.now.class.0) regs.now Test).reply ≡ true) }
 {
     if regs.is_pop() {
@@ -132,11 +131,11 @@ pub(crate) fn go_on(stopped: bool, slab: &mut Slab, regs: &mut Regs) -> bool
             regs.go_on(Pc::Test);
         }
         Pc::Test => {
-            let left = left(slab, regs);
-            if left == 0 {
+            let most = available(slab, regs);
+            if most == 0 {
                 return false;
             }
-            let count = regs.wanted(left);
+            let count = regs.wanted(most);
             counted(regs, count);
         }
         Pc::Copy { done } if regs.is_pop() => load(slab, regs, done),
