@@ -36,7 +36,7 @@ pub fn act_front<F: FrontEnd, A: Answers>(
                 &mut next,
             )? {
                 Came::Row => local.go_on(),
-                Came::Next => local.enter(setting, next),
+                Came::Next => local.enter(setting, &next),
             }
             Ok(())
         }

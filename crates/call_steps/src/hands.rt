@@ -104,12 +104,12 @@ impl<F: FrontEnd, A: Answers> Local<F, A> {
 
     /// What comes behind an act of the front-end. The calls alone decide, change steps and begin the next
     /// call.
-    pub(crate) fn enter(&mut self, setting: &Setting, next: Next<F::Row>)
+    pub(crate) fn enter(&mut self, setting: &Setting, next: &Next<F::Row>)
         requires acts { self.old.acts < 2 ^ 64 - 1 }
-        requires next { MayFollow F.about (F.rules setting.now).refuses (F.rules setting.now).calls.rows self.old.step self.old.regs next }
-        ensures { self.new ≡ follows (F.rules setting.now).calls self.old (undecided F.about self.old.step) next }
+        requires next { MayFollow F.about (F.rules setting.now).refuses (F.rules setting.now).calls.rows self.old.step self.old.regs next.now }
+        ensures { self.new ≡ follows (F.rules setting.now).calls self.old (undecided F.about self.old.step) next.now }
     {
-        match next {
+        match *next {
             Next::Row(row) => self.go(Step::Front(row)),
             Next::Serve(asking) => self.serve(setting, asking),
             Next::Fetch(asking) => self.go(Step::Shard(ShardStep::Fetch(asking))),
