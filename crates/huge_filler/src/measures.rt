@@ -13,8 +13,6 @@ pub const NO_TIER: u8 = 3;
 /// What decides whether a hugepage of the filler is chosen, and when it gives pages up.
 #[derive(Clone, Copy, Debug, PartialEq, Eq)]
 pub struct Measures {
-    /// 2 where a page of it is unbacked, else 1 where it is donated, else 0.
-    pub tier: u8,
     /// Its longest range of unused pages.
     pub longest: u32,
     /// Live runs that have a page in it.
@@ -23,6 +21,8 @@ pub struct Measures {
     pub used: u32,
     /// Its backed pages that no run has.
     pub spare: u32,
+    /// 2 where a page of it is unbacked, else 1 where it is donated, else 0.
+    pub tier: u8,
     /// Whether it is the donated tail of a larger run.
     pub donated: bool,
 }

@@ -13,8 +13,6 @@ use tc_units::Huge;
 #[derive(Drop)]
 pub struct HugeIndex {
     list: SortedList<Key>,
-    /// By number of a hugepage, from 1 on: where its key was put last. It stands there still, or near it.
-    places: Vec<usize>,
 }
 
 impl Model for HugeIndex {
@@ -38,7 +36,6 @@ impl HugeIndex {
     {
         Ok(HugeIndex {
             list: SortedList::open(alloc, room)?,
-            places: vec![in alloc; 0; room]?,
         })
     }
 
@@ -77,32 +74,15 @@ impl HugeIndex {
         });
     }
 
-    /// Puts a hugepage's new measures in place of those that it has here.
+    /// Puts a hugepage's new measures in place of those that it has here. That is quick where the hugepages were added by
+    /// their numbers, from 1 on.
     pub fn rekey(&mut self, from: Key, to: Key)
         requires { Contains self.old.keys from }
         ensures keys { IsPermutation (to ∷ self.old.keys) (from ∷ self.new.keys) }
         ensures held { Contains self.new.keys to }
         ensures spare { self.new.spare ≡ self.old.spare }
     {
-        let near = self.place_of(from.huge);
-        let place = self.list.rekey_near(near, from, to);
-        self.note(to.huge, place);
-    }
-
-    /// Where a hugepage's key was put last, or the first place.
-    fn place_of(&self, huge: Huge) -> usize {
-        match self.places.get(usize::from(huge.0).wrapping_sub(1)) {
-            Some(place) => *place,
-            None => 0,
-        }
-    }
-
-    /// Notes where a hugepage's key is put.
-    fn note(&mut self, huge: Huge, place: usize)
-        ensures { self.new ≡ self.old }
-    {
-        if let Some(noted) = self.places.get_mut(usize::from(huge.0).wrapping_sub(1)) {
-            *noted = place;
-        }
+        self.list
+            .rekey_slot(usize::from(from.huge.0).wrapping_sub(1), from, to);
     }
 }

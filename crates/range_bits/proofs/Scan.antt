@@ -161,6 +161,29 @@ best_taken row n from (Some old) range next edge some long is =
     (λ t. (best_stays row n from range.start range.len old.start next (λ l. omega (arith, is.1, leb-true old.len range.len t)) is.0, is.1))
     (λ f. best_new row n from range next edge some long (λ y early here far. omega (arith, is.1, leb-false old.len range.len f, (is.0.least y early here far).0)))
 
+-- the first range that is just long enough is the best one
+all_longer : (row : List Bool) (n from y : ℕ) (found : Option FreeRange) → IsBest row n from found → IfSome found (λ old. n < old.len) → y < from → begins_range row y ≡ true → n ≤ free_from row y → n < free_from row y
+all_longer row n from y None is longer early here far = absurd (omega (arith, is y early here))
+all_longer row n from y (Some old) is longer early here far = omega (arith, is.1, (is.0.least y early here far).0)
+
+pub best_exact : (row : List Bool) (n from : ℕ) (found : Option FreeRange) (range : FreeRange) → IsNextRange row from range.start range.len → (0 < from → from < length row → get_or row from true ≡ true) → 0 < n → range.len ≡ n → IsBest row n from found → IfSome found (λ old. n < old.len) → best row n ≡ Some range.start
+best_exact row n from found range next edge some exact is longer =
+    let here : free_from row range.start ≡ range.len = free_run row range.len range.start next.within next.free next.end in
+    best_is row n (length row) range.start (omega arith) (record {
+      before = omega (arith, next.within);
+      inside = omega (arith, next.within);
+      starts = starts row from range.start range.len next edge (omega arith);
+      long = omega arith;
+      least = λ y to begins far. (
+        omega arith,
+        λ less.
+            elim (reach row from range.start range.len y next (omega arith) begins) [
+              | inl early ↦ (let more = all_longer row n from y found is longer early begins far in omega arith)
+              | inr at ↦ absurd (omega (arith, at.0))
+            ],
+      );
+    })
+
 -- there is no best range exactly where the longest is too short
 pub none_exactly : (row : List Bool) (n : ℕ) (r : Option ℕ) → 0 < n → r ≡ best row n → (r ≡ None) ↔ (longest row < n)
 none_exactly row n None pos e = ((λ none. longest_is_short row n pos (sym e)), (λ short. refl))

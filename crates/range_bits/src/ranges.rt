@@ -64,7 +64,11 @@ pub fn best_range(words: &[u64], n: u32) -> Option<FreeRange>
     let mut from = 0;
     while (from as usize) < words.len() * 64 {
         let range = next_range(words, from);
-        if n <= range.len {
+        if range.len == n {
+            // None is shorter.
+            return Some(range);
+        }
+        if n < range.len {
             found = Some(shorter(found, range));
         }
         from = range.start + range.len;

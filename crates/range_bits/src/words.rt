@@ -1,5 +1,5 @@
 //! Words of 64 places each: the next used or free place, and making places used or free.
-ghost use Rattle.std.specs.Prelude.{◌≡◌, ℕ, ◌+◌, ◌-◌, ◌*◌, ◌^◌, ◌<◌, ◌≤◌, ◌&&◌, ◌==◌, nat_le, nat_lt, not, length, if◌then◌else◌};
+ghost use Rattle.std.specs.Prelude.{◌≡◌, ℕ, ◌+◌, ◌-◌, ◌*◌, ◌/◌, ◌^◌, ◌<◌, ◌≤◌, ◌&&◌, ◌==◌, nat_le, nat_lt, not, length, if◌then◌else◌};
 ghost use Rattle.range_bits.specs.Fills.{IsEnd, StaysUsed};
 ghost use Rattle.range_bits.specs.Ranges.{with_places};
 ghost use Rattle.range_bits.specs.Words.{is_one, is_marked, row_of, IsNext};
@@ -97,6 +97,21 @@ pub fn with_bit(word: u64, bit: u32, used: bool) -> u64
     if used { word | mask } else { word & !mask }
 }
 
+/// Makes the places from `start` up to `end` used, or free, all of which are in one word.
+fn set_in_word(words: &mut [u64], start: usize, end: usize, used: bool)
+    requires fits { 64 * length words.old < 2 ^ 32 }
+    requires order { start < end }
+    requires word { end ≤ 64 * (start / 64) + 64 }
+    requires inside { end ≤ 64 * length words.old }
+    ensures places { row_of words.new ≡ with_places (row_of words.old) start (end - start) used }
+    ensures len { length words.new ≡ length words.old }
+{
+    let index = start / 64;
+    let low = (start % 64) as u32;
+    let high = (end - index * 64) as u32;
+    words[index] = with_bits(words[index], low, high, used);
+}
+
 /// Makes the places from `start` up to `end` used, or free.
 pub fn set_places(words: &mut [u64], start: usize, end: usize, used: bool)
     requires fits { 64 * length words.old < 2 ^ 32 }
@@ -106,6 +121,10 @@ pub fn set_places(words: &mut [u64], start: usize, end: usize, used: bool)
     ensures len { length words.new ≡ length words.old }
 {
     if start == end {
+        return;
+    }
+    if (end - 1) / 64 == start / 64 {
+        set_in_word(words, start, end, used);
         return;
     }
     for index in start / 64..end.div_ceil(64) {

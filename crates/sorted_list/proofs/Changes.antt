@@ -1,23 +1,23 @@
 -- Sorted keys with a key more, fewer or changed.
-use Rattle.sorted_list.proofs.Common.{common_steps, nat_tests, length-insert, get_or-insert_below, get_or-insert_at}
+use Rattle.sorted_list.proofs.Common.{nat_tests, length-insert, get_or-insert_below, get_or-insert_at}
 use Rattle.sorted_list.proofs.Common.{get_or-insert_above, length-remove, get_or-remove_below, get_or-remove_above, IsPermutation-insert, IsPermutation-remove}
 use Rattle.sorted_list.proofs.Common.{IsPermutation-cons, IsPermutation-trans, IsPermutation-middle, IsPermutation-sym, IsOrder, IsInOrder, IsPlaceOf}
 use Rattle.std.proofs.Common.{◌≡◌, ℕ, ◌+◌, ◌-◌, ◌<◌, ◌≤◌, Bool, false, cond, nat_le, List, [], ◌∷◌, length, get_or, insert, remove, Contains, IsPermutation, sym, ap, ◌∙◌, arith}
+
+-- what stands in the list with a key more
+item_below : {K : Type 0} (keys : List K) (key : K) (place i : ℕ) (d : K) → i < place → place ≤ length keys → get_or (insert keys place key) i d ≡ get_or keys i d
+item_below keys key place i d l within = get_or-insert_below keys place key d i l within
+
+pub item_at : {K : Type 0} (keys : List K) (key : K) (place i : ℕ) (d : K) → place ≡ i → place ≤ length keys → get_or (insert keys place key) i d ≡ key
+item_at keys key place i d e within = ap (λ j. get_or (insert keys place key) j d) (sym e) ∙ get_or-insert_at keys place key d within
+
+pub item_above : {K : Type 0} (keys : List K) (key : K) (place i : ℕ) (d : K) → place < i → place ≤ length keys → get_or (insert keys place key) i d ≡ get_or keys (i - 1) d
+item_above keys key place i d l within = grind (arith, nat_tests, get_or-insert_above)
 
 module _ {K : Type 0} (before : K → K → Bool) (total : IsOrder K before) where
   -- no key comes before itself
   pub not_itself : (a : K) → before a a ≡ false
   not_itself a = grind (arith, nat_tests)
-
-  -- what stands in the list with a key more
-  item_below : (keys : List K) (key : K) (place i : ℕ) (d : K) → i < place → place ≤ length keys → get_or (insert keys place key) i d ≡ get_or keys i d
-  item_below keys key place i d l within = get_or-insert_below keys place key d i l within
-
-  item_at : (keys : List K) (key : K) (place i : ℕ) (d : K) → place ≡ i → place ≤ length keys → get_or (insert keys place key) i d ≡ key
-  item_at keys key place i d e within = ap (λ (j : ℕ). get_or (insert keys place key) j d) (sym e) ∙ get_or-insert_at keys place key d within
-
-  item_above : (keys : List K) (key : K) (place i : ℕ) (d : K) → place < i → place ≤ length keys → get_or (insert keys place key) i d ≡ get_or keys (i - 1) d
-  item_above keys key place i d l within = grind (arith, nat_tests, get_or-insert_above)
 
   both : {a b x y : K} → a ≡ x → b ≡ y → before x y ≡ false → before a b ≡ false
   both {a} {b} {x} {y} e h k = ap (λ (t : K). before t b) e ∙ ap (λ (t : K). before x t) h ∙ k
@@ -55,21 +55,20 @@ module _ {K : Type 0} (before : K → K → Bool) (total : IsOrder K before) whe
     pub place_among : (to : K) (target : ℕ) → IsPlaceOf before keys to target → IsPlaceOf before (remove keys place) to (cond (nat_le target place) target (target - 1))
     place_among to target at = grind (arith, nat_tests, place_down to target, place_up to target)
 
-  -- in order, and no other key comes or goes
-  pub rekeyed_in_order : (keys : List K) (from to : K) (place target : ℕ) → IsInOrder before keys → IsPlaceOf before keys from place → IsPlaceOf before keys to target → Contains keys from → IsInOrder before (insert (remove keys place) (cond (nat_le target place) target (target - 1)) to)
-  rekeyed_in_order keys from to place target order at goal held =
-      let inside = (held_at keys from place order at held).0 in
+  -- Another key in the place of one: in order, and no other key comes or goes.
+  pub rekeyed_in_order : (keys : List K) (to : K) (place target : ℕ) → IsInOrder before keys → place < length keys → IsPlaceOf before keys to target → IsInOrder before (insert (remove keys place) (cond (nat_le target place) target (target - 1)) to)
+  rekeyed_in_order keys to place target order inside goal =
       inserted_in_order (remove keys place) to (cond (nat_le target place) target (target - 1)) (removed_in_order keys place order inside) (place_among keys place inside to target goal)
 
-  pub rekeyed_is_held : (keys : List K) (from to : K) (place target : ℕ) → IsInOrder before keys → IsPlaceOf before keys from place → IsPlaceOf before keys to target → Contains keys from → Contains (insert (remove keys place) (cond (nat_le target place) target (target - 1)) to) to
-  rekeyed_is_held keys from to place target order at goal held = grind (arith, nat_tests, common_steps, held_at, inserted_is_held, place_among)
+  pub rekeyed_is_held : (keys : List K) (to : K) (place target : ℕ) → place < length keys → IsPlaceOf before keys to target → Contains (insert (remove keys place) (cond (nat_le target place) target (target - 1)) to) to
+  rekeyed_is_held keys to place target inside goal = inserted_is_held (remove keys place) to _ (place_among keys place inside to target goal).within
 
-  pub rekeyed_keys : (keys : List K) (from to : K) (place slot : ℕ) → IsInOrder before keys → IsPlaceOf before keys from place → Contains keys from → IsPermutation (to ∷ keys) (from ∷ insert (remove keys place) slot to)
-  rekeyed_keys keys from to place slot order at held =
-      let here = held_at keys from place order at held in
-      let others : List K = remove keys place in
-      IsPermutation-trans (to ∷ keys) (to ∷ from ∷ others) (from ∷ insert others slot to)
-      (IsPermutation-cons to keys (from ∷ others) (IsPermutation-remove keys place from here.0 (sym here.1)))
-      (IsPermutation-trans (to ∷ from ∷ others) (from ∷ to ∷ others) (from ∷ insert others slot to)
-      (IsPermutation-sym (from ∷ to ∷ others) (to ∷ from ∷ others) (IsPermutation-middle (from ∷ []) to others))
-      (IsPermutation-cons from (to ∷ others) (insert others slot to) (IsPermutation-insert others slot to)))
+-- one key for another one
+pub rekeyed_keys : {K : Type 0} (keys : List K) (from to : K) (place slot : ℕ) → place < length keys → get_or keys place from ≡ from → IsPermutation (to ∷ keys) (from ∷ insert (remove keys place) slot to)
+rekeyed_keys {K} keys from to place slot inside here =
+    let others : List K = remove keys place in
+    IsPermutation-trans (to ∷ keys) (to ∷ from ∷ others) (from ∷ insert others slot to)
+    (IsPermutation-cons to keys (from ∷ others) (IsPermutation-remove keys place from inside (sym here)))
+    (IsPermutation-trans (to ∷ from ∷ others) (from ∷ to ∷ others) (from ∷ insert others slot to)
+    (IsPermutation-sym (from ∷ to ∷ others) (to ∷ from ∷ others) (IsPermutation-middle (from ∷ []) to others))
+    (IsPermutation-cons from (to ∷ others) (insert others slot to) (IsPermutation-insert others slot to)))

@@ -1,3 +1,4 @@
+mod Beside
 pub mod Changes
 mod Common
 mod Exchanged

@@ -1,5 +1,5 @@
 -- A key that comes, changes or leaves: what is kept, and which keys are there then.
-use Rattle.sorted_list.proofs.Common.{common_steps, nat_tests, le-leb, lt-leb, length-set, take_at, length-insert, length-remove, get_or-insert_at, slice_get, slice_get_read, IsPermutation-insert}
+use Rattle.sorted_list.proofs.Common.{common_steps, nat_tests, le-leb, lt-leb, length-set, take_at, length-insert, length-remove, get_or-insert_at, slice_get, slice_get_read, slice_get_within, get_or_from_slice_get, IsPermutation-insert}
 use Rattle.sorted_list.proofs.Common.{IsPermutation-remove, keys_of, IsKept, IsOrder, IsInOrder, IsPlaceOf}
 use Rattle.std.proofs.Common.{◌≡◌, ℕ, ◌+◌, ◌-◌, ◌<◌, ◌≤◌, Bool, cond, nat_le, List, Some, ◌∷◌, ◌++◌, length, get_or, set, take, drop, insert, remove, Contains, IsPermutation, sym, ap, subst, ◌∙◌, arith}
 use Rattle.sorted_list.proofs.Changes.{inserted_in_order, inserted_is_held, held_at, removed_in_order, rekeyed_in_order, rekeyed_is_held, rekeyed_keys}
@@ -42,19 +42,20 @@ module _ {K : Type 0} (before : K → K → Bool) (total : IsOrder K before) (sa
       let q = subst Q (sym keys) (ordered, IsPermutation-insert now place key, inserted_is_held before total now key place at.within) in
       subst P (sym there) (still (set slots slot key) len place slot (len + 1) room (omega arith) is (length-set slots slot key) (omega arith) q.0, q.1, q.2)
 
-  pub changed : (from to : K) (place target slot : ℕ) (order' : List ℕ) → IsInOrder before now → IsPlaceOf before now from place → IsPlaceOf before now to target → Contains now from → slot ≡ get_or order place slot → order' ≡ insert (remove order place) (landing place target) slot → IsKept before sample (set slots slot to) order' len × IsPermutation (to ∷ now) (from ∷ keys_of sample (set slots slot to) order' len) × Contains (keys_of sample (set slots slot to) order' len) to × (slice_get (keys_of sample (set slots slot to) order' len) (landing place target) ≡ Some to)
-  changed from to place target slot order' sorted at goal held is e =
-      let inside : place < len = omega (arith, (held_at before total now from place sorted at held).0, size) in
+  pub changed : (from to : K) (place target slot : ℕ) (order' : List ℕ) → IsInOrder before now → slice_get now place ≡ Some from → IsPlaceOf before now to target → slot ≡ get_or order place slot → order' ≡ insert (remove order place) (landing place target) slot → IsKept before sample (set slots slot to) order' len × IsPermutation (to ∷ now) (from ∷ keys_of sample (set slots slot to) order' len) × Contains (keys_of sample (set slots slot to) order' len) to × (slice_get (keys_of sample (set slots slot to) order' len) (landing place target) ≡ Some to)
+  changed from to place target slot order' sorted there goal is e =
+      let held : place < length now = slice_get_within now place from there in
+      let inside : place < len = omega (arith, size) in
       let near = landing_within place target len inside (omega (arith, goal.within, size)) in
       let land : ℕ = landing place target in
       let keys : keys_of sample (set slots slot to) (insert (remove order place) land slot) len ≡ insert (remove now place) land to =
       key_changed sample to slots order len slot kept.once place land kept.within inside near (sym is) ∙ ap (λ (ks : List K). insert (remove ks place) land to) same in
       let P : List ℕ → Type 0 = λ o. IsKept before sample (set slots slot to) o len × IsPermutation (to ∷ now) (from ∷ keys_of sample (set slots slot to) o len) × Contains (keys_of sample (set slots slot to) o len) to × (slice_get (keys_of sample (set slots slot to) o len) land ≡ Some to) in
       let Q : List K → Type 0 = λ ks. IsInOrder before ks × IsPermutation (to ∷ now) (from ∷ ks) × Contains ks to × (slice_get ks land ≡ Some to) in
-      let fewer : length (remove now place) + 1 ≡ length now = length-remove now place (omega (arith, inside, size)) in
+      let fewer : length (remove now place) + 1 ≡ length now = length-remove now place held in
       let placed : slice_get (insert (remove now place) land to) land ≡ Some to =
       slice_get_read (insert (remove now place) land to) len land to (omega (arith, fewer, size, near, length-insert (remove now place) land to)) near (sym (get_or-insert_at (remove now place) land to to (omega (arith, fewer, size, near)))) in
-      let q = subst Q (sym keys) (rekeyed_in_order before total now from to place target sorted at goal held, rekeyed_keys before total now from to place land sorted at held, rekeyed_is_held before total now from to place target sorted at goal held, placed) in
+      let q = subst Q (sym keys) (rekeyed_in_order before total now to place target sorted held goal, rekeyed_keys now from to place land held (get_or_from_slice_get now place from from there), rekeyed_is_held before total now to place target held goal, placed) in
       subst P (sym e) (still (set slots slot to) place land slot len (omega (arith, kept.within)) (omega (arith, kept.within)) is (length-set slots slot to) kept.within q.0, q.1, q.2, q.3)
 
   pub left : (key : K) (place slot : ℕ) (order' : List ℕ) → IsInOrder before now → IsPlaceOf before now key place → Contains now key → slot ≡ get_or order place slot → order' ≡ insert (remove order place) (landing place len) slot → IsKept before sample slots order' (len - 1) × IsPermutation now (key ∷ keys_of sample slots order' (len - 1))

@@ -14,6 +14,9 @@ const MOST_KEYS: usize = 65_536;
 /// How many places a key is looked for from another one's before it is searched.
 const NEAR: usize = 8;
 
+/// How many numbers are moved one by one, so that it is noted where each is put.
+const FEW: usize = 16;
+
 /// Keys in their order. Contracts see them so, and how many more there is room for. Each key lies in a
 /// slot: one that comes or leaves moves numbers of slots, and no other key.
 #[derive(Drop)]
@@ -22,6 +25,8 @@ pub struct SortedList<K: SortKey> {
     /// The numbers of all slots: first those of the keys, in the keys' order.
     order: Vec<u16>,
     len: usize,
+    /// By slot: where its number was put last. It stands there still, or near it.
+    places: Vec<u16>,
     /// Where the key stands that was changed last, if it still stands there: it may well be the next one.
     recent: usize,
 }
@@ -38,19 +43,75 @@ impl<K: SortKey> Model for SortedList<K> {
     ghost invariant = { λ l. IsKept K.before K.sample l.slots.items l.order.items l.len };
 }
 
-/// Takes the number at a place out, and puts it in before a target: those between the two move by one.
-fn turn(order: &mut [u16], place: usize, target: usize, slot: u16)
+/// Notes where the number of a slot is put.
+fn note(places: &mut [u16], slot: u16, place: usize)
+    requires { place < 65536 }
+{
+    if let Some(noted) = places.get_mut(usize::from(slot)) {
+        *noted = place as u16;
+    }
+}
+
+/// Moves a number towards the front, one place after another.
+fn move_back(order: &mut [u16], places: &mut [u16], place: usize, target: usize, slot: u16)
+    requires held { slice_get order.old place ≡ Some slot }
+    requires back { target ≤ place }
+    requires most { length order.old ≤ 65536 }
+    ensures after { order.new ≡ insert (remove order.old place) target slot }
+    ensures len { length order.new ≡ length order.old }
+{
+    for step in 0..place - target {
+        let at = place - step;
+        let moved = order[at - 1];
+        order[at] = moved;
+        order[at - 1] = slot;
+        note(places, moved, at);
+    }
+    note(places, slot, target);
+}
+
+/// Moves a number towards the end, one place after another.
+fn move_on(order: &mut [u16], places: &mut [u16], place: usize, last: usize, slot: u16)
+    requires held { slice_get order.old place ≡ Some slot }
+    requires on { place ≤ last }
+    requires within { last < length order.old }
+    requires most { length order.old ≤ 65536 }
+    ensures after { order.new ≡ insert (remove order.old place) last slot }
+    ensures len { length order.new ≡ length order.old }
+{
+    for at in place..last {
+        let moved = order[at + 1];
+        order[at] = moved;
+        order[at + 1] = slot;
+        note(places, moved, at);
+    }
+    note(places, slot, last);
+}
+
+/// Takes the number at a place out, and puts it in before a target: those between the two move by one. Where they are many
+/// it isn't noted where they are put.
+#[inline(always)]
+fn turn(order: &mut [u16], places: &mut [u16], place: usize, target: usize, slot: u16)
     requires held { slice_get order.old place ≡ Some slot }
     requires within { target ≤ length order.old }
+    requires most { length order.old ≤ 65536 }
     ensures after { order.new ≡ insert (remove order.old place) (if nat_le target place then target else target - 1) slot }
     ensures len { length order.new ≡ length order.old }
 {
     if target <= place {
-        order[target..place + 1].rotate_right(1);
-        order[target] = slot;
+        if place - target <= FEW {
+            move_back(order, places, place, target, slot);
+        } else {
+            order[target..place + 1].rotate_right(1);
+            order[target] = slot;
+            note(places, slot, target);
+        }
+    } else if target - place <= FEW {
+        move_on(order, places, place, target - 1, slot);
     } else {
         order[place..target].rotate_left(1);
         order[target - 1] = slot;
+        note(places, slot, target - 1);
     }
 }
 
@@ -75,6 +136,7 @@ impl<K: SortKey> SortedList<K> {
             slots: vec![in alloc; K::sample(); room]?,
             order,
             len: 0,
+            places: vec![in alloc; 0; room]?,
             recent: 0,
         })
     }
@@ -265,6 +327,43 @@ impl<K: SortKey> SortedList<K> {
         }
     }
 
+    /// How many keys come before a key, which is looked for from another one on that stands at a place.
+    fn place_from(&self, place: usize, from: K, key: K) -> usize
+        requires { slice_get self.now.keys place ≡ Some from }
+        ensures order { IsInOrder K.before self.now.keys }
+        ensures place { IsPlaceOf K.before self.now.keys key result }
+    {
+        // The keys are in order.
+        let _len = self.len();
+        if from.comes_before(key) {
+            self.later(place + 1, key)
+        } else {
+            self.earlier(place, key)
+        }
+    }
+
+    /// Where a key stands, which is looked for near a place.
+    fn find(&self, near: usize, key: K) -> usize
+        requires { Contains self.now.keys key }
+        ensures { slice_get self.now.keys result ≡ Some key }
+    {
+        if near < self.len() {
+            let other = self.at(near);
+            if !other.comes_before(key) && !key.comes_before(other) {
+                return near;
+            }
+        }
+        self.place_near(near, key)
+    }
+
+    /// Where the number of a slot was put last, or the first place.
+    fn place_of(&self, slot: usize) -> usize {
+        match self.places.get(slot) {
+            Some(place) => usize::from(*place),
+            None => 0,
+        }
+    }
+
     /// Adds a key.
     pub fn insert(&mut self, key: K)
         requires { 0 < self.old.spare }
@@ -275,7 +374,7 @@ impl<K: SortKey> SortedList<K> {
         let place = self.place(key);
         let slot = self.order[self.len];
         self.slots[slot as usize] = key;
-        turn(&mut self.order, self.len, place, slot);
+        turn(&mut self.order, &mut self.places, self.len, place, slot);
         self.len += 1;
     }
 
@@ -287,7 +386,7 @@ impl<K: SortKey> SortedList<K> {
     {
         let place = self.place(key);
         let slot = self.order[place];
-        turn(&mut self.order, place, self.len, slot);
+        turn(&mut self.order, &mut self.places, place, self.len, slot);
         self.len -= 1;
     }
 
@@ -301,6 +400,18 @@ impl<K: SortKey> SortedList<K> {
         self.recent = self.rekey_near(self.recent, from, to);
     }
 
+    /// The same, of a key that is looked for first where a slot has it. A list from which no key was taken out has its keys in
+    /// slots by the order in which they came.
+    pub fn rekey_slot(&mut self, slot: usize, from: K, to: K)
+        requires { Contains self.old.keys from }
+        ensures keys { IsPermutation (to ∷ self.old.keys) (from ∷ self.new.keys) }
+        ensures held { Contains self.new.keys to }
+        ensures spare { self.new.spare ≡ self.old.spare }
+    {
+        let near = self.place_of(slot);
+        self.rekey_near(near, from, to);
+    }
+
     /// The same, of a key that is looked for near a place first. Answers where the other key stands then.
     pub fn rekey_near(&mut self, near: usize, from: K, to: K) -> usize
         requires { Contains self.old.keys from }
@@ -309,11 +420,11 @@ impl<K: SortKey> SortedList<K> {
         ensures spare { self.new.spare ≡ self.old.spare }
         ensures placed { slice_get self.new.keys result ≡ Some to }
     {
-        let place = self.place_near(near, from);
-        let target = self.place_near(place, to);
+        let place = self.find(near, from);
+        let target = self.place_from(place, from, to);
         let slot = self.order[place];
         self.slots[slot as usize] = to;
-        turn(&mut self.order, place, target, slot);
+        turn(&mut self.order, &mut self.places, place, target, slot);
         target - usize::from(place < target)
     }
 }

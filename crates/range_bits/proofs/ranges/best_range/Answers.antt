@@ -1,7 +1,7 @@
-use Rattle.std.proofs.Common.{arith}
+use Rattle.std.proofs.Common.{sym, arith}
 use Rattle.range_bits.proofs.Common.{row_of}
 use Rattle.range_bits.proofs.RowFacts.{length-row_of}
-use Rattle.range_bits.proofs.Scan.{best_taken, best_passed, best_found}
+use Rattle.range_bits.proofs.Scan.{best_taken, best_passed, best_found, best_exact}
 use Rattle.range_bits.proofs.ranges.best_range.Goals as goal
 
 pub loop-from-preserved : goal.loop-from-preserved
@@ -13,3 +13,7 @@ loop-from-preserved c =
 
 pub returns : goal.returns
 returns c = best_found (row_of c.args.words.now) c.args.n c.loop-from.from c.loop-from.found c.requires.some (omega (arith, length-row_of c.args.words.now)) c.loop-from.invariant.best
+
+pub returns-then-range-n : goal.returns-then-range-n
+returns-then-range-n c =
+    sym (best_exact (row_of c.args.words.now) c.args.n c.loop-from.from c.loop-from.found c.next_range-range.result c.next_range-range.ensures.next c.loop-from.invariant.edge c.requires.some c.if-range-n.true c.loop-from.invariant.best c.loop-from.invariant.longer)

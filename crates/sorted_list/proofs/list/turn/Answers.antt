@@ -3,8 +3,8 @@ use Rattle.std.proofs.Common.{arith}
 use Rattle.sorted_list.proofs.Exchanged.{moved_up, moved_down}
 use Rattle.sorted_list.proofs.list.turn.Goals as goal
 
-pub returns-then-target-place-clause-after : goal.returns-then-target-place-clause-after
-returns-then-target-place-clause-after c = grind (arith, nat_tests, moved_up, slice_get_within, le-leb)
+pub returns-else-place-target-le-FEW-clause-after : goal.returns-else-place-target-le-FEW-clause-after
+returns-else-place-target-le-FEW-clause-after c = grind (arith, nat_tests, moved_up, slice_get_within, le-leb)
 
-pub returns-else-target-place-clause-after : goal.returns-else-target-place-clause-after
-returns-else-target-place-clause-after c = grind (arith, nat_tests, moved_down, slice_get_within, lt-leb)
+pub returns-else-target-place-le-FEW-clause-after : goal.returns-else-target-place-le-FEW-clause-after
+returns-else-target-place-le-FEW-clause-after c = grind (arith, nat_tests, moved_down, slice_get_within, lt-leb)
