@@ -10,13 +10,14 @@ ghost use Rattle.tcreplay.specs.Reads.{IsRunnable};
 ghost use Rattle.tcreplay.specs.Writes.{IsRunEnd, IsLastEnd};
 ghost use Rattle.tcreplay.specs.Generating.{IsMade, AreWritten, HasGenerated};
 
-use crate::input::{Job, load_table, trace_of};
+use crate::input::{Job, load_table};
 use crate::outcome::{End, Outcome};
 use crate::run::{Ran, Telling, run_over};
 use crate::task::Workload;
 use cpu_front::CpuCaches;
 use std::alloc::Global;
 use tc_ports::{Failed, Shelf, Sink};
+use trace_gen::Generated;
 
 /// A generated trace, and its serial replay under a class table.
 #[derive(Drop)]
@@ -25,7 +26,7 @@ pub struct Made {
     pub job: Job,
 }
 
-/// Makes the trace of a workload, and reads what it asks for under the class table of its file.
+/// Makes the trace of a workload, with what it asks for, under the class table of its file.
 fn make<F: Shelf>(alloc: Global, workload: Workload, files: &mut F) -> Result<Made, End>
     requires ranges { IsWorkload (seen_workload workload) }
     ensures made { IsMade (seen_workload workload.entry) (F.seen files.old) (F.seen files.new) result }
@@ -33,10 +34,10 @@ fn make<F: Shelf>(alloc: Global, workload: Workload, files: &mut F) -> Result<Ma
 {
     let table = load_table(alloc, workload.classes, files)?;
     let threads = workload.threads as u8;
-    let Ok(text) = trace_gen::generate(alloc, workload.seed, workload.calls, threads) else {
+    let Ok(generated) = trace_gen::generate(alloc, workload.seed, workload.calls, threads) else {
         return Err(End::Memory);
     };
-    let trace = trace_of(alloc, &table, &text)?;
+    let Generated { text, trace } = generated;
     let job = Job {
         table,
         trace,

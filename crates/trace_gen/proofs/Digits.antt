@@ -3,5 +3,5 @@ use Rattle.std.proofs.Common.{rules, ℕ, ◌<◌, ◌≤◌, ◌^◌, length}
 use Rattle.std.specs.Prelude.{decimal}
 use Rattle.std.proofs.lemmas.Fmt.{length-decimal-le}
 
-pub ten_digits : (n : ℕ) → n < 2 ^ 32 → length (decimal n) ≤ 10
-ten_digits n small = search (rules, length-decimal-le 10)
+pub twenty_digits : (n : ℕ) → n < 2 ^ 64 → length (decimal n) ≤ 20
+twenty_digits n small = search (rules, length-decimal-le 20)

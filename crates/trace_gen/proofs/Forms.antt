@@ -1,20 +1,24 @@
--- A line of a generated trace is read as what it says.
-use Rattle.std.proofs.Common.{◌≡◌, ℕ, ◌+◌, ◌^◌, ◌<◌, ◌≤◌, ◌&&◌, true, false, List, [], ◌∷◌, drop, map, codes, decimal, Some, Ok, refl, arith}
+-- A good line is read as what it says.
+use Rattle.std.proofs.Common.{◌≡◌, ℕ, ◌+◌, ◌^◌, ◌<◌, ◌≤◌, ◌&&◌, true, false, List, [], ◌∷◌, drop, map, decimal, Some, Ok, refl, ap, arith}
 use Rattle.std.proofs.lemmas.Bool.{le-leb, and_right}
 use Rattle.std.proofs.lemmas.Bool.Decides.{nat_tests}
+use Rattle.tc_model.specs.declared.config.Head as heads
+use Rattle.tc_model.specs.declared.config.Head.TheVariants.{Cpus}
+use Rattle.tc_model.specs.Heads.{head_rule}
 use Rattle.tc_model.specs.Input.{Asked}
 use Rattle.trace_reader.specs.declared.word.Word.{Word}
 use Rattle.trace_reader.specs.declared.word.Word.TheVariants as word
 use Rattle.trace_reader.specs.declared.form.Form.{Form}
-use Rattle.trace_reader.specs.declared.form.Form.TheVariants.{Malloc, Free, Move, Release, Drain}
+use Rattle.trace_reader.specs.declared.form.Form.TheVariants.{Head, Malloc, Free, Move, Release, Drain, Resize}
 use Rattle.trace_reader.specs.Words.{Range, word_of, is_head, ranges_of}
 use Rattle.trace_reader.specs.Form.{number_in, numbers_in, form_with, form_of, has_fields}
 use Rattle.trace_reader.specs.Steps.{Fits}
 use Rattle.trace_reader.specs.Reading as reading
 use Rattle.trace_reader.specs.Reading.{SoFar, lacks_thread, lacks_cpu, lacks_class, label_used, label_unknown, label_freed, with_form, read_line, read_lines}
-use Rattle.trace_gen.specs.declared.line.Line.{Line}
-use Rattle.trace_gen.specs.declared.line.Line.TheVariants as line
+use Rattle.trace_reader.proofs.Values.{head_most}
 use Rattle.trace_gen.specs.Fields.{line_fields}
+use Rattle.trace_gen.specs.Said.{Said, with_line, IsGood}
+use Rattle.trace_gen.specs.TraceText.{line_word, line_numbers}
 use Rattle.trace_text.proofs.Decimals.{number_of_decimal}
 
 -- each number is in its range, and fits a machine word
@@ -52,39 +56,54 @@ passes : (l : reading.Line) (w : Word) (form : Form) → l.number ≤ 1000000 �
 passes l w form few named early has is none = grind (arith, nat_tests)
 
 -- a word with numbers behind it is read, and the lines behind it are read behind its form
-pub reads_words : (classes number : ℕ) (before : SoFar) (name : List ℕ) (w : Word) (ns : List ℕ) (form : Form) (rest : List (List (List ℕ)))
+reads_words : (classes number : ℕ) (before : SoFar) (name : List ℕ) (w : Word) (ns : List ℕ) (form : Form) (rest : List (List (List ℕ)))
     → number ≤ 1000000 → word_of name ≡ Some w → (before.late && is_head w) ≡ false → has_fields w (map decimal ns) ≡ true → AreIn (ranges_of w) ns
     → form_with w ns ≡ Some form → Fits classes before.asked form
     → read_lines classes before number ((name ∷ map decimal ns) ∷ rest) ≡ read_lines classes (with_form number form before) (number + 1) rest
 reads_words classes number before name w ns form rest few named early has are is fits = grind (arith, passes, numbers_in-decimals, fails_none)
 
--- what a generated line says
-abbrev pub form_for : Line → Form
-form_for (line.Malloc thread label size) = Malloc thread label size
-form_for (line.Free thread label) = Free thread label
-form_for (line.Preempt thread before cpu) = Move thread before cpu
-form_for (line.Release thread pages) = Release thread pages
-form_for (line.Drain thread cpu) = Drain thread cpu
+-- the word of a form, by which it is read
+abbrev word_for : Form → Word
+word_for (Head head value) = word.Head head
+word_for (Malloc thread label size) = word.Malloc
+word_for (Free thread label) = word.Free
+word_for (Move thread before cpu) = word.Move
+word_for (Release thread pages) = word.Release
+word_for (Drain thread cpu) = word.Drain
+word_for (Resize thread cpu class cap) = word.Resize
 
--- its numbers are in their ranges
-abbrev pub IsIn : Line → Type 0
-IsIn (line.Malloc thread label size) = (thread < 64) × (label < 1000000) × (size ≤ 1099511627776)
-IsIn (line.Free thread label) = (thread < 64) × (label < 1000000)
-IsIn (line.Preempt thread before cpu) = (thread < 64) × (1 ≤ before) × (before ≤ 8) × (cpu < 64)
-IsIn (line.Release thread pages) = (thread < 64) × (pages < 1000)
-IsIn (line.Drain thread cpu) = (thread < 64) × (cpu < 64)
+head_named : (h : heads.Head) → word_of (head_rule h).name ≡ Some (word.Head h)
+head_named Cpus = refl
+head_named _ = refl
 
--- a generated line is read, and the lines behind it are read behind its form
-pub reads_line : (classes number : ℕ) (before : SoFar) (own : Line) (rest : List (List (List ℕ))) → number ≤ 1000000 → IsIn own
-    → Fits classes before.asked (form_for own)
-    → read_lines classes before number (line_fields own ∷ rest) ≡ read_lines classes (with_form number (form_for own) before) (number + 1) rest
-reads_line classes number before (line.Malloc thread label size) rest few is fits =
-    reads_words classes number before (codes "a") word.Malloc (thread ∷ label ∷ size ∷ []) (Malloc thread label size) rest few refl (and_right before.late false refl) refl (omega arith) refl fits
-reads_line classes number before (line.Free thread label) rest few is fits =
-    reads_words classes number before (codes "f") word.Free (thread ∷ label ∷ []) (Free thread label) rest few refl (and_right before.late false refl) refl (omega arith) refl fits
-reads_line classes number before (line.Preempt thread instruction cpu) rest few is fits =
-    reads_words classes number before (codes "p") word.Move (thread ∷ instruction ∷ cpu ∷ []) (Move thread instruction cpu) rest few refl (and_right before.late false refl) refl (omega arith) refl fits
-reads_line classes number before (line.Release thread pages) rest few is fits =
-    reads_words classes number before (codes "r") word.Release (thread ∷ pages ∷ []) (Release thread pages) rest few refl (and_right before.late false refl) refl (omega arith) refl fits
-reads_line classes number before (line.Drain thread cpu) rest few is fits =
-    reads_words classes number before (codes "d") word.Drain (thread ∷ cpu ∷ []) (Drain thread cpu) rest few refl (and_right before.late false refl) refl (omega arith) refl fits
+word_named : (form : Form) → word_of (line_word form) ≡ Some (word_for form)
+word_named (Head head value) = head_named head
+word_named _ = refl
+
+has_numbers : (form : Form) → has_fields (word_for form) (map decimal (line_numbers form)) ≡ true
+has_numbers (Malloc thread label size) = refl
+has_numbers _ = refl
+
+form_is : (form : Form) → form_with (word_for form) (line_numbers form) ≡ Some form
+form_is (Malloc thread label size) = refl
+form_is _ = refl
+
+is_early : (said : Said) (form : Form) → IsGood said form → (said.sofar.late && is_head (word_for form)) ≡ false
+is_early said (Head head value) good = ap (λ late. late && true) (good.early refl)
+is_early said _ good = and_right said.sofar.late false refl
+
+are_in : (said : Said) (form : Form) → IsGood said form → said.sofar.asked.config.threads ≤ 64 → said.sofar.asked.config.cpus ≤ 64 → AreIn (ranges_of (word_for form)) (line_numbers form)
+are_in said (Head head value) good threads cpus = omega (arith, good.range, head_most head)
+are_in said (Malloc thread label size) good threads cpus = omega (arith, good.range, good.fits 0)
+are_in said (Free thread label) good threads cpus = omega (arith, good.range, good.fits 0)
+are_in said (Move thread before cpu) good threads cpus = omega (arith, good.range, good.fits 0)
+are_in said (Release thread pages) good threads cpus = omega (arith, good.range, good.fits 0)
+are_in said (Drain thread cpu) good threads cpus = omega (arith, good.fits 0)
+are_in said (Resize thread cpu class cap) good threads cpus = omega (arith, good.range, good.fits 0)
+
+-- a good line is read, and the lines behind it are read behind its form
+pub reads_line : (classes : ℕ) (said : Said) (form : Form) (rest : List (List (List ℕ))) → IsGood said form → said.sofar.asked.config.threads ≤ 64 → said.sofar.asked.config.cpus ≤ 64
+    → read_lines classes said.sofar said.number (line_fields form ∷ rest) ≡ read_lines classes (with_line said form).sofar (with_line said form).number rest
+reads_line classes said form rest good threads cpus =
+    reads_words classes said.number said.sofar (line_word form) (word_for form) (line_numbers form) form rest good.few (word_named form) (is_early said form good) (has_numbers form)
+    (are_in said form good threads cpus) (form_is form) (good.fits classes)

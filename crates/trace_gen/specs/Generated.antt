@@ -1,8 +1,9 @@
 -- The generated trace as values: the lines of each call, as functions of its draws and of the live labels.
 use Rattle.std.specs.Prelude.{ℕ, zero, suc, ◌+◌, ◌*◌, ◌/◌, ◌%◌, ◌==◌, nat_lt, not, ◌&&◌, List, [], ◌∷◌, ◌++◌, length, slice_index, if◌then◌else◌, Option, None, Some, option_to_list}
 use Rattle.std.specs.List.{swap_remove}
-use Rattle.trace_gen.specs.declared.line.Line.{Line}
-use Rattle.trace_gen.specs.declared.line.Line.TheVariants as line
+use Rattle.tc_model.specs.declared.config.Head.TheVariants.{Cpus, Threads, Huge}
+use Rattle.trace_reader.specs.declared.form.Form.{Form}
+use Rattle.trace_reader.specs.declared.form.Form.TheVariants as form
 use Rattle.trace_gen.specs.declared.kind.Kind.{Kind}
 use Rattle.trace_gen.specs.declared.kind.Kind.TheVariants as kind
 use Rattle.trace_gen.specs.Draws.{number_after, draw}
@@ -36,11 +37,11 @@ abbrev pub freed_place : State → ℕ
 freed_place s = draw 0 s.number % length s.live
 
 -- the line of a call of thread t
-abbrev pub call_line : ℕ → ℕ → Kind → State → Line
-call_line cpus t kind.Malloc s = line.Malloc t s.next (size_of (draw 0 s.number % 16) (draw 1 s.number))
-call_line cpus t kind.Free s = line.Free t (slice_index s.live (freed_place s))
-call_line cpus t kind.Drain s = line.Drain t (draw 0 s.number % cpus)
-call_line cpus t kind.Release s = line.Release t (draw 0 s.number % 1000)
+abbrev pub call_line : ℕ → ℕ → Kind → State → Form
+call_line cpus t kind.Malloc s = form.Malloc t s.next (size_of (draw 0 s.number % 16) (draw 1 s.number))
+call_line cpus t kind.Free s = form.Free t (slice_index s.live (freed_place s))
+call_line cpus t kind.Drain s = form.Drain t (draw 0 s.number % cpus)
+call_line cpus t kind.Release s = form.Release t (draw 0 s.number % 1000)
 
 -- what stands behind it: an allocation's label is the last live one, and the last one takes the place of the freed one
 abbrev pub after_call : Kind → State → State
@@ -54,15 +55,15 @@ abbrev pub next_kind : State → Kind
 next_kind s = kind_of (draw 1 s.number % 100) s.live
 
 -- every tenth call is preempted before one of its first eight instructions, by two draws
-abbrev pub preempting : ℕ → ℕ → ℕ → State → Option Line
-preempting cpus t i s = if i % 10 == 9 then Some (line.Preempt t (draw 0 s.number % 8 + 1) (draw 1 s.number % cpus)) else None
+abbrev pub preempting : ℕ → ℕ → ℕ → State → Option Form
+preempting cpus t i s = if i % 10 == 9 then Some (form.Move t (draw 0 s.number % 8 + 1) (draw 1 s.number % cpus)) else None
 
 -- the state at which the call itself draws
 abbrev pub at_call : ℕ → State → State
 at_call i s = if i % 10 == 9 then drawn 4 s else drawn 2 s
 
 -- the lines of call i
-abbrev pub lines_of : ℕ → ℕ → State → List Line
+abbrev pub lines_of : ℕ → ℕ → State → List Form
 lines_of threads i s =
     let cpus = cpus_of threads in
     let t = draw 0 s.number % threads in
@@ -73,7 +74,11 @@ abbrev pub state_at : ℕ → ℕ → State
 state_at seed zero = record { number = seed; live = []; next = 0 }
 state_at seed (suc i) = after_call (next_kind (state_at seed i)) (at_call i (state_at seed i))
 
--- the lines of the first calls
-abbrev pub lines_before : ℕ → ℕ → ℕ → List Line
-lines_before seed threads zero = []
+-- the heads: CPUs, threads, and 1024 hugepages
+abbrev pub heads_of : ℕ → List Form
+heads_of threads = form.Head Cpus (cpus_of threads) ∷ form.Head Threads threads ∷ form.Head Huge 1024 ∷ []
+
+-- the heads, and the lines of the first calls
+abbrev pub lines_before : ℕ → ℕ → ℕ → List Form
+lines_before seed threads zero = heads_of threads
 lines_before seed threads (suc i) = lines_before seed threads i ++ lines_of threads i (state_at seed i)

@@ -1,4 +1,5 @@
 pub mod Draws
 pub mod Fields
 pub mod Generated
+pub mod Said
 pub mod TraceText

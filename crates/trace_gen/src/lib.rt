@@ -2,12 +2,12 @@
 //! a preemption, a drain or a release. The generator is this project's own.
 #![tactic(auto)]
 
+mod draft;
 mod kind;
-mod line;
 mod state;
 #[cfg(test)]
 mod tests;
 mod trace;
 mod writing;
 
-pub use trace::generate;
+pub use trace::{Generated, generate};

@@ -3,9 +3,9 @@ ghost use Rattle.std.specs.Prelude.{◌≡◌, ◌+◌, ◌/◌, ◌%◌, ◌==�
 ghost use Rattle.trace_gen.specs.Draws.{draw};
 
 use crate::kind::Kind;
-use crate::line::Line;
 use std::alloc::{AllocError, Global};
 use std::marker::Model;
+use trace_reader::Form;
 
 /// The number behind which the next draw comes, the live labels, and the next label.
 #[derive(Drop)]
@@ -38,18 +38,18 @@ impl Generator {
     }
 
     /// Draws a number: 0 to 32767.
-    fn draw(&mut self) -> u32
+    fn draw(&mut self) -> u64
         ensures value { result ≡ draw 0 self.old.number }
         ensures below { result < 32768 }
         ensures after { self.new ≡ drawn 1 self.old }
     {
         let number = (u64::from(self.number) * 1103515245 + 12345) % 2147483648;
         self.number = number as u32;
-        self.number / 65536
+        number / 65536
     }
 
     /// The kind of call that a number from 0 to 99 stands for.
-    fn kind(&self, chance: u32) -> Kind
+    fn kind(&self, chance: u64) -> Kind
         ensures { result ≡ kind_of chance self.now.live }
     {
         match chance {
@@ -61,7 +61,7 @@ impl Generator {
     }
 
     /// Draws the bytes of a request.
-    fn size(&mut self) -> u32
+    fn size(&mut self) -> u64
         ensures size { result ≡ size_of (draw 0 self.old.number % 16) (draw 1 self.old.number) }
         ensures after { self.new ≡ drawn 2 self.old }
     {
@@ -75,7 +75,7 @@ impl Generator {
     }
 
     /// Takes the next label for an allocation.
-    fn malloc(&mut self, thread: u8) -> Result<Line, AllocError>
+    fn malloc(&mut self, thread: u64) -> Result<Form, AllocError>
         requires { self.old.next < 4294967295 }
         ensures line { IfOk result (λ l. l ≡ call_line 1 thread Kind.Malloc self.old) }
         ensures after { OnOk result (self.new ≡ after_call Kind.Malloc self.old) }
@@ -84,26 +84,26 @@ impl Generator {
         let size = self.size();
         self.live.push(label)?;
         self.next += 1;
-        Ok(Line::Malloc {
+        Ok(Form::Malloc {
             thread,
-            label,
+            label: u64::from(label),
             size,
         })
     }
 
     /// Frees a live label.
-    fn free(&mut self, thread: u8) -> Line
+    fn free(&mut self, thread: u64) -> Form
         requires { 0 < length self.old.live }
         ensures line { result ≡ call_line 1 thread Kind.Free self.old }
         ensures after { self.new ≡ after_call Kind.Free self.old }
     {
         let place = self.draw() as usize % self.live.len();
-        let label = self.live.swap_remove(place);
-        Line::Free { thread, label }
+        let label = u64::from(self.live.swap_remove(place));
+        Form::Free { thread, label }
     }
 
     /// Preempts every tenth call before one of its first eight instructions.
-    fn preemption(&mut self, i: u64, thread: u8, cpus: u8) -> Option<Line>
+    fn preemption(&mut self, i: u64, thread: u64, cpus: u64) -> Option<Form>
         requires { 0 < cpus }
         ensures line { result ≡ preempting cpus thread i self.old }
         ensures after { self.new ≡ (if i % 10 == 9 then drawn 2 self.old else self.old) }
@@ -111,9 +111,9 @@ impl Generator {
         if i % 10 != 9 {
             return None;
         }
-        let before = (self.draw() % 8 + 1) as u8;
-        let cpu = (self.draw() % u32::from(cpus)) as u8;
-        Some(Line::Preempt {
+        let before = self.draw() % 8 + 1;
+        let cpu = self.draw() % cpus;
+        Some(Form::Move {
             thread,
             before,
             cpu,
@@ -121,7 +121,7 @@ impl Generator {
     }
 
     /// Makes the line of a call.
-    fn call(&mut self, kind: Kind, thread: u8, cpus: u8) -> Result<Line, AllocError>
+    fn call(&mut self, kind: Kind, thread: u64, cpus: u64) -> Result<Form, AllocError>
         requires cpus { 0 < cpus }
         requires next { self.old.next < 4294967295 }
         requires live { kind ≡ Kind.Free → 0 < length self.old.live }
@@ -131,11 +131,11 @@ impl Generator {
         Ok(match kind {
             Kind::Malloc => self.malloc(thread)?,
             Kind::Free => self.free(thread),
-            Kind::Drain => Line::Drain {
+            Kind::Drain => Form::Drain {
                 thread,
-                cpu: (self.draw() % u32::from(cpus)) as u8,
+                cpu: self.draw() % cpus,
             },
-            Kind::Release => Line::Release {
+            Kind::Release => Form::Release {
                 thread,
                 pages: self.draw() % 1000,
             },
@@ -146,9 +146,9 @@ impl Generator {
     pub fn step(
         &mut self,
         i: u64,
-        cpus: u8,
-        threads: u8,
-    ) -> Result<(Option<Line>, Line), AllocError>
+        cpus: u64,
+        threads: u64,
+    ) -> Result<(Option<Form>, Form), AllocError>
         requires threads { 0 < threads }
         requires cpus { cpus ≡ cpus_of threads }
         requires next { self.old.next < 4294967295 }
@@ -156,7 +156,7 @@ impl Generator {
             (λ r. option_to_list r.0 ++ r.1 ∷ [] ≡ lines_of threads i self.old) }
         ensures after { OnOk result (self.new ≡ after_call (next_kind self.old) (at_call i self.old)) }
     {
-        let thread = (self.draw() % u32::from(threads)) as u8;
+        let thread = self.draw() % threads;
         let chance = self.draw() % 100;
         let kind = self.kind(chance);
         let preemption = self.preemption(i, thread, cpus);

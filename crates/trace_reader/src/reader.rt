@@ -7,26 +7,28 @@ ghost use Rattle.trace_reader.specs.Reading.{first_word, is_some_and, thread_of,
 ghost use Rattle.tc_model.specs.Input.{label_end};
 ghost use Rattle.trace_reader.specs.Kept.{MayFollow};
 ghost use Rattle.trace_reader.specs.Steps.{broken, broken_label, so_far, line_at, IsLineFault, HasWord, Fits, IsReading, IsSoFar};
+ghost use Rattle.trace_reader.specs.Traces.{trace_of};
 
 use crate::calls::{Calls, LabelUse};
 use crate::form::{Form, read_form};
 use crate::limits::{MOST_CLASSES, MOST_LABELS, MOST_LINES};
+use crate::trace::Trace;
 use crate::why::{LineWhy, TraceFault};
 use crate::word::{Word, read_word};
 use std::alloc::{AllocError, Global};
 use tc_model::{Call, Config, MOST_THREADS, MoveTo, Planned};
-use tc_units::{Class, CpuNo, Label, ThreadNo};
+use tc_units::{Class, CpuNo, Label, Listed, ThreadNo};
 use trace_text::Fields;
 
-/// What the lines so far say.
+/// What the lines so far say, whether they are read or are being written.
 #[derive(Drop)]
 pub struct Reader {
-    pub config: Config,
+    config: Config,
     /// Whether a line was no head.
     late: bool,
     /// The pending move of each thread.
     moves: [Option<MoveTo>; MOST_THREADS],
-    pub calls: Calls,
+    calls: Calls,
 }
 
 /// Whether a number is there and isn't below a bound.
@@ -190,10 +192,10 @@ impl Reader {
         self.calls.add(ThreadNo(thread as u8), planned)
     }
 
-    /// Adds what a line says, which fails no rule.
-    fn add(&mut self, classes: u32, line: u32, form: Form) -> Result<(), AllocError>
+    /// Adds what a line says, which fails no rule where there are as many size classes as there can be.
+    pub fn add(&mut self, line: u32, form: Form) -> Result<(), AllocError>
         requires range { IsInRange form }
-        requires fits { Fits classes (so_far self.old).asked form }
+        requires fits { Fits MOST_CLASSES (so_far self.old).asked form }
         requires reading { IsReading self.old }
         ensures added { OnOk result (so_far self.new ≡ with_form line form (so_far self.old)) }
         ensures reading { OnOk result (IsReading self.new) }
@@ -265,9 +267,25 @@ impl Reader {
             Ok(form) => form,
             Err(why) => return Err(TraceFault::BadLine { line: number, why }),
         };
-        match self.add(classes, number, form) {
+        match self.add(number, form) {
             Ok(()) => Ok(()),
             Err(_) => Err(TraceFault::Memory),
         }
+    }
+
+    /// What the lines ask for.
+    pub fn into_trace(self, alloc: Global) -> Result<Trace, AllocError>
+        requires { IsReading self }
+        ensures { IfOk result (λ trace. trace ≡ trace_of (so_far self).asked) }
+    {
+        let threads = usize::from(self.config.threads);
+        let config = self.config;
+        let (scripts, turns, labels) = self.calls.into_scripts(alloc, threads)?;
+        Ok(Trace {
+            config,
+            scripts: Listed::new(scripts),
+            turns: Listed::new(turns),
+            labels,
+        })
     }
 }

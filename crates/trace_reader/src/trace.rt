@@ -7,7 +7,7 @@ ghost use Rattle.trace_reader.specs.Traces.{trace_of, IsTraceFault};
 
 use crate::reader::Reader;
 use crate::why::TraceFault;
-use std::alloc::{AllocError, Global};
+use std::alloc::Global;
 use tc_model::{Config, Script};
 use tc_units::{Listed, ThreadNo};
 use trace_text::Lines;
@@ -25,22 +25,6 @@ pub struct Trace {
     pub labels: u32,
 }
 
-/// What was read.
-fn trace_read(alloc: Global, reader: Reader) -> Result<Trace, AllocError>
-    requires { IsReading reader }
-    ensures { IfOk result (λ trace. trace ≡ trace_of (so_far reader).asked) }
-{
-    let threads = usize::from(reader.config.threads);
-    let config = reader.config;
-    let (scripts, turns, labels) = reader.calls.into_scripts(alloc, threads)?;
-    Ok(Trace {
-        config,
-        scripts: Listed::new(scripts),
-        turns: Listed::new(turns),
-        labels,
-    })
-}
-
 /// What the text of a trace asks for, where there are so many size classes; a class number is at most
 /// 255. Unless memory runs out, a refusal is the first bad line with the first rule that it fails.
 pub fn read_trace(alloc: Global, bytes: &[u8], classes: u32) -> Result<Trace, TraceFault>
@@ -55,5 +39,5 @@ pub fn read_trace(alloc: Global, bytes: &[u8], classes: u32) -> Result<Trace, Tr
     while let Some(mut line) = lines.next() {
         reader.read_line(classes, &mut line)?;
     }
-    trace_read(alloc, reader).map_err(|_| TraceFault::Memory)
+    reader.into_trace(alloc).map_err(|_| TraceFault::Memory)
 }

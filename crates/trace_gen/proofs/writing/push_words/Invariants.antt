@@ -7,6 +7,6 @@ use Rattle.trace_gen.proofs.writing.push_words.Given as goal
 abbrev pub invariant-loop-place : goal.invariant-loop-place
 invariant-loop-place l = record {
   written : drop l.end l.line ≡ flat_map (λ n. codes " " ++ decimal n) (drop l.place l.numbers) ++ codes "\n";
-  room : length l.word + 11 * l.place ≤ l.end;
-  within : l.end ≤ 47;
+  room : length l.word + 21 * l.place ≤ l.end;
+  within : l.end ≤ 95;
 }
