@@ -28,9 +28,9 @@ fields_of-last : (line : List ℕ) (n : ℕ) → n ≡ position_or_len is_space 
 fields_of-last line n is g = slice_split_none is_space line (λ k d l. fails_before_first is_space line k d (omega arith))
 
 -- the fields from a place on: one field of n bytes, and those behind its space
-pub fields_between-first : (text : List ℕ) (start end n : ℕ) → start ≤ end → end ≤ length text → n ≡ position_or_len is_space (slice_range text start end)
+pub first_field : (text : List ℕ) (start end n : ℕ) → start ≤ end → end ≤ length text → n ≡ position_or_len is_space (slice_range text start end)
     → fields_between text start end ≡ take n (slice_range text start end) ∷ fields_between text (start + (n + 1)) end
-fields_between-first text start end n order within is =
+first_field text start end n order within is =
     grind (arith, nat_tests, length-between, le-leb, fields_of-first, drop-slice_range, lt-leb, fields_of-last, take_all)
 
 -- where fields are left behind a field of n bytes, a space ends it

@@ -4,3 +4,4 @@ pub mod Joins
 pub mod Decimals
 pub mod Printed
 pub mod Numbers
+pub mod Blocks

@@ -4,6 +4,7 @@ ghost use Rattle.std.specs.List.{position_or_len};
 ghost use Rattle.tc_units.specs.Decimal.{is_digit, number_of};
 ghost use Rattle.trace_text.specs.Lines.{is_space};
 
+use crate::digits::{few_digits, only_digit};
 use crate::search::length_before;
 use std::marker::Model;
 
@@ -53,6 +54,7 @@ fn with_digit(value: u64, byte: u8, most: u64) -> Option<u64>
 
 /// The number of the first field of a line's rest, and how many bytes that field has. `None` exactly where it is no
 /// canonical decimal of at most `most`.
+#[inline(never)]
 fn first_number(rest: &[u8], most: u64) -> Option<(u64, usize)>
     requires { most < 2 ^ 60 }
     ensures number { option_map (λ n. n.0) result ≡ number_of most (take (position_or_len is_space rest.now) rest.now) }
@@ -72,6 +74,37 @@ fn first_number(rest: &[u8], most: u64) -> Option<(u64, usize)>
         return None;
     }
     Some((value, length))
+}
+
+/// The number of the field that begins at `start` in a line that ends at `end`, and how many bytes that field has. `None`
+/// exactly where it is no canonical decimal of at most `most`.
+#[inline(always)]
+fn number_at(text: &[u8], start: usize, end: usize, most: u64) -> Option<(u64, usize)>
+    requires order { start ≤ end }
+    requires within { end ≤ length text.now }
+    requires small { most < 2 ^ 60 }
+    ensures number { option_map (λ n. n.0) result ≡ number_of most (take (position_or_len is_space (slice_range text.now start end)) (slice_range text.now start end)) }
+    ensures length { IfSome result (λ n. n.1 ≡ position_or_len is_space (slice_range text.now start end)) }
+{
+    match few_digits(text, start, end, most) {
+        Some(number) => Some(number),
+        None => first_number(&text[start..end], most),
+    }
+}
+
+/// The same, of a number that likely has one digit.
+#[inline(always)]
+fn short_number_at(text: &[u8], start: usize, end: usize, most: u64) -> Option<(u64, usize)>
+    requires order { start ≤ end }
+    requires within { end ≤ length text.now }
+    requires small { most < 2 ^ 60 }
+    ensures number { option_map (λ n. n.0) result ≡ number_of most (take (position_or_len is_space (slice_range text.now start end)) (slice_range text.now start end)) }
+    ensures length { IfSome result (λ n. n.1 ≡ position_or_len is_space (slice_range text.now start end)) }
+{
+    match only_digit(&text[start..end]) {
+        Some(digit) if digit <= most => Some((digit, 1)),
+        _ => number_at(text, start, end, most),
+    }
 }
 
 impl<'a> Fields<'a> {
@@ -141,6 +174,8 @@ impl<'a> Fields<'a> {
 
     /// The number of the next field. `None` exactly where none is left or it is no canonical decimal of at
     /// most `most`; what is left then isn't told.
+    #[inline(always)]
+    #[tactic(auto, using(crate::proofs::Cuts::first_field))]
     pub fn number(&mut self, most: u64) -> Option<u64>
         requires { most < 2 ^ 60 }
         ensures number { result ≡ option_and_then (number_of most) (slice_get self.old.fields 0) }
@@ -150,7 +185,24 @@ impl<'a> Fields<'a> {
         if self.start > self.end {
             return None;
         }
-        let (value, length) = first_number(&self.text[self.start..self.end], most)?;
+        let (value, length) = number_at(self.text, self.start, self.end, most)?;
+        self.start += length + 1;
+        Some(value)
+    }
+
+    /// The same, of a number that likely has one digit.
+    #[inline(always)]
+    #[tactic(auto, using(crate::proofs::Cuts::first_field))]
+    pub fn short_number(&mut self, most: u64) -> Option<u64>
+        requires { most < 2 ^ 60 }
+        ensures number { result ≡ option_and_then (number_of most) (slice_get self.old.fields 0) }
+        ensures others { IfSome result (λ _. self.new.fields ≡ drop 1 self.old.fields) }
+        ensures same { (self.new.text ≡ self.old.text) × (self.new.line ≡ self.old.line) × (self.new.end ≡ self.old.end) }
+    {
+        if self.start > self.end {
+            return None;
+        }
+        let (value, length) = short_number_at(self.text, self.start, self.end, most)?;
         self.start += length + 1;
         Some(value)
     }

@@ -2,6 +2,7 @@
 //! by field, cut by position, and nothing is copied.
 #![tactic(auto)]
 
+mod digits;
 mod fields;
 mod laws;
 mod lines;

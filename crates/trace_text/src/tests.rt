@@ -68,13 +68,22 @@ fn numbers_that_are_cut(rt: HostRuntime) {
         (b"07".as_slice(), None, None),
         (b"7x".as_slice(), None, None),
         (b"7 8\n9".as_slice(), Some(7), Some(8)),
+        (b"12 34\n56 78".as_slice(), Some(12), Some(34)),
+        (b"12 34\r\n56".as_slice(), Some(12), Some(34)),
+        (b"012 34567".as_slice(), None, None),
+        (b"12x 34567".as_slice(), None, None),
+        (b"100 34567".as_slice(), None, None),
+        (b"12345678 9".as_slice(), None, None),
+        (b" 12 34567".as_slice(), None, None),
+        (b"12 \n345678".as_slice(), Some(12), None),
     ] {
         if let Some(mut line) = Lines::new(text).next() {
             let mut again = line.again();
             assert_eq!(rt; line.number(99), first, "at {text:?}");
-            assert_eq!(rt; again.number(99), first, "at {text:?}");
+            assert_eq!(rt; again.short_number(99), first, "at {text:?}");
             if first.is_some() {
                 assert_eq!(rt; line.number(99), second, "at {text:?}");
+                assert_eq!(rt; again.short_number(99), second, "at {text:?}");
                 assert_eq!(rt; line.is_empty(), second.is_some(), "at {text:?}");
             }
         }

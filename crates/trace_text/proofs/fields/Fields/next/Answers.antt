@@ -1,10 +1,10 @@
 use Rattle.std.proofs.Common.{arith}
 use Rattle.std.proofs.lemmas.List.{length-take-le}
-use Rattle.trace_text.proofs.Cuts.{fields_between-first, space_behind}
+use Rattle.trace_text.proofs.Cuts.{first_field, space_behind}
 use Rattle.trace_text.proofs.fields.Fields.next.Goals as goal
 
 pub returns-clause-fields : goal.returns-clause-fields
-returns-clause-fields c = grind (arith, length-take-le, fields_between-first)
+returns-clause-fields c = grind (arith, length-take-le, first_field)
 
 pub returns-clause-space : goal.returns-clause-space
 returns-clause-space c =
