@@ -67,6 +67,17 @@ pub fn next_number(fields: &mut Fields, least: u64, most: u64) -> Option<u64>
     fields.number(most).filter(|n| *n >= least)
 }
 
+/// The same, of a number that likely has one digit.
+#[inline(always)]
+pub fn next_short_number(fields: &mut Fields, least: u64, most: u64) -> Option<u64>
+    requires { most < 2 ^ 60 }
+    ensures number { result ≡ option_and_then (number_in (from_to least most)) (slice_get fields.old.fields 0) }
+    ensures others { IfSome result (λ _. fields.new.fields ≡ drop 1 fields.old.fields) }
+    ensures range { IfSome result (λ n. (least ≤ n) × (n ≤ most)) }
+{
+    fields.short_number(most).filter(|n| *n >= least)
+}
+
 /// The number of the next field, of a thread, a CPU or a class.
 #[inline(always)]
 pub fn next_place(fields: &mut Fields) -> Option<u64>
@@ -74,7 +85,7 @@ pub fn next_place(fields: &mut Fields) -> Option<u64>
     ensures others { IfSome result (λ _. fields.new.fields ≡ drop 1 fields.old.fields) }
     ensures range { IfSome result (λ n. n ≤ MOST_PLACE) }
 {
-    next_number(fields, 0, MOST_PLACE)
+    next_short_number(fields, 0, MOST_PLACE)
 }
 
 /// `Some` exactly where no field is left.

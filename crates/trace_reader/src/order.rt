@@ -1,5 +1,5 @@
 //! Reading an order file.
-ghost use Rattle.std.specs.Prelude.{◌≡◌, ◌≤◌, Ok, Some, OnOk, IfOk, IfErr, All, ◌<◌};
+ghost use Rattle.std.specs.Prelude.{◌≡◌, ◌+◌, ◌≤◌, ◌<◌, ◌^◌, ◌++◌, length, replicate, Ok, Some, OnOk, IfOk, IfErr, All};
 ghost use Rattle.std.specs.Result.{result_err};
 ghost use Rattle.trace_reader.specs.Reading.{verdict};
 ghost use Rattle.trace_reader.specs.Orders.{line_turns, order_rules, read_order_line, picks_by, IsOrderFault};
@@ -8,9 +8,26 @@ ghost use Rattle.trace_reader.specs.Turning.{order_line_at, IsOrderLineFault};
 use crate::limits::MOST_LINES;
 use crate::turn::{Turns, read_turns};
 use crate::why::{OrderFault, OrderWhy};
-use std::alloc::Global;
+use std::alloc::{AllocError, Global};
 use tc_model::MOST_PICKS;
 use trace_text::{Fields, Lines};
+
+/// Most lines ask for no more picks than these, which are written in one step.
+const FEW_PICKS: usize = 8;
+
+/// Appends so many picks of a thread. Few picks are cut from as many as are written in one step, which guesses no count.
+fn push_picks(picks: &mut Vec<u16>, thread: u16, count: usize) -> Result<(), AllocError>
+    requires { length picks.old.items + count < 2 ^ 32 }
+    ensures { OnOk result (picks.new.items ≡ picks.old.items ++ replicate count thread) }
+{
+    let end = picks.len() + count;
+    if count > FEW_PICKS {
+        return picks.resize(end, thread);
+    }
+    picks.extend_from_slice(&[thread; FEW_PICKS])?;
+    picks.truncate(end);
+    Ok(())
+}
 
 /// The picks so far.
 #[derive(Drop)]
@@ -50,10 +67,8 @@ impl Picked {
             Ok(turns) => turns,
             Err(why) => return Err(OrderFault::BadLine { line: number, why }),
         };
-        let end = self.picks.len() + turns.picks as usize;
-        self.picks
-            .resize(end, turns.thread)
-            .map_err(|_| OrderFault::Memory)
+        let count = turns.picks as usize;
+        push_picks(&mut self.picks, turns.thread, count).map_err(|_| OrderFault::Memory)
     }
 }
 

@@ -2,7 +2,7 @@
 ghost use Rattle.std.specs.Prelude.{◌≡◌, ◌≤◌, IfOk, IfSome};
 ghost use Rattle.trace_reader.specs.Orders.{line_turns, has_turn_fields, read_turn_fields};
 
-use crate::form::{end, next_number, next_place};
+use crate::form::{end, next_place, next_short_number};
 use crate::limits::MOST_TURNS;
 use crate::why::OrderWhy;
 use trace_text::Fields;
@@ -23,7 +23,7 @@ fn turns_of(line: &mut Fields) -> Option<Turns>
     let picks = if line.is_empty() {
         1
     } else {
-        next_number(line, 1, MOST_TURNS)?
+        next_short_number(line, 1, MOST_TURNS)?
     };
     end(line)?;
     Some(Turns {
