@@ -176,6 +176,7 @@ impl Reader {
     }
 
     /// Adds a call, which takes the thread's pending move.
+    #[inline(always)]
     fn call(&mut self, line: u32, thread: u64, call: Call) -> Result<(), AllocError>
         requires thread { thread < self.old.config.threads }
         requires few { label_end call ≤ MOST_LABELS }
@@ -193,6 +194,7 @@ impl Reader {
     }
 
     /// Adds what a line says, which fails no rule where there are as many size classes as there can be.
+    #[inline(always)]
     pub fn add(&mut self, line: u32, form: Form) -> Result<(), AllocError>
         requires range { IsInRange form }
         requires fits { Fits MOST_CLASSES (so_far self.old).asked form }
