@@ -78,13 +78,13 @@ module _ {nodes : ℕ} {input : Input} {order : List ℕ} (h : HoldsAfter nodes 
   pub rising_is : (t : ℕ) (l : Beside NodeLocal) → slice_get locals t ≡ Some l → slice_get w.locals t ≡ Some l
   rising_is t l at = ap (λ (v : World NodePart (Beside NodeLocal)). slice_get v.locals t) (sym is) ∙ at
 
-  pub totals_are : {lines : List CallLine} {s : Standing} {count used resident : ℕ} {rows : List RowView}
-      → lines ≡ numa_calls locals order → AreStanding lines s → count ≡ length lines
+  pub totals_are : {lines : List CallLine} {s : Standing} {count bytes used resident : ℕ} {rows : List RowView}
+      → lines ≡ numa_calls locals order → AreStanding lines s → count ≡ length lines → bytes ≡ live_bytes lines
       → used ≡ over_nodes used_pages setting parts nodes → resident ≡ over_nodes backed_pages setting parts nodes → rows ≡ rows_to setting parts nodes
-      → (let t : Totals = record { calls = count; live = s.count; live_bytes = s.bytes; used = used; resident = resident; rows = rows } in
+      → (let t : Totals = record { calls = count; live = s.count; live_bytes = bytes; used = used; resident = resident; rows = rows } in
       t ≡ totals_of (finished_in nodes input order))
-  totals_are told stand count_is used_is resident_is rows_are =
-      rw (count_is, stand.count, stand.bytes, used_is, resident_is, rows_are, told, told_are, parts_are)
+  totals_are told stand count_is bytes_are used_is resident_is rows_are =
+      rw (count_is, stand.count, bytes_are, used_is, resident_is, rows_are, told, told_are, parts_are)
 
   -- the blocks of each node are among its live runs
   covered_to : (n : ℕ) → n ≤ nodes → sum_by (λ k. live_bytes (lines_at k h.lines)) (range_with_len 0 n) ≤ runs_to setting parts n * page_bytes
@@ -98,10 +98,10 @@ module _ {nodes : ℕ} {input : Input} {order : List ℕ} (h : HoldsAfter nodes 
       let bytes = sum_next (λ k. live_bytes (lines_at k h.lines)) n in
       omega (arith, covered_to n (omega (arith, few)), at, all.covered, same, bytes, sum_next (λ k. pages (heap_at setting parts k)) n)
 
-  pub covered_is : {lines : List CallLine} {s : Standing} {used resident : ℕ}
-      → lines ≡ numa_calls locals order → AreStanding lines s → used ≡ runs_to setting parts nodes → used ≤ resident → s.bytes ≤ resident * page_bytes
-  covered_is told stand runs covers =
-      omega (arith, stand.bytes, ap live_bytes (lines_are told), h.joined.bytes, covered_to nodes (omega arith), runs, covers)
+  pub covered_is : {lines : List CallLine} {bytes used resident : ℕ}
+      → lines ≡ numa_calls locals order → bytes ≡ live_bytes lines → used ≡ runs_to setting parts nodes → used ≤ resident → bytes ≤ resident * page_bytes
+  covered_is told bytes_are runs covers =
+      omega (arith, bytes_are, ap live_bytes (lines_are told), h.joined.bytes, covered_to nodes (omega arith), runs, covers)
 
 -- all that holds after an order whose picks move
 pub holds_after : (m : NumaMachine) {order : List ℕ}

@@ -128,7 +128,7 @@ impl Recalls for NumaMachine {
         let totals = Totals {
             calls: standing.calls,
             live: standing.count,
-            live_bytes: standing.bytes,
+            live_bytes: standing.live_bytes(),
             used: pages.used,
             resident: pages.resident,
             rows: Listed::new(rows),

@@ -11,7 +11,7 @@ use Rattle.tc_units.specs.Classes.{length_of}
 use Rattle.tc_units.specs.declared.spans.ClassRow.{ClassRow}
 use Rattle.tc_units.specs.declared.spans.Run.{Run}
 use Rattle.tc_model.specs.declared.answers.CallLine.{CallLine}
-use Rattle.tc_model.specs.Blocks.{IsBlockRun}
+use Rattle.tc_model.specs.Blocks.{live_bytes, IsBlockRun}
 use Rattle.tc_model.specs.Input.{Asked}
 use Rattle.tc_model.specs.Run.{Rules, World, world_of, run}
 use Rattle.tc_model.specs.Sound.{IsOrder}
@@ -104,12 +104,13 @@ module _ {P V R : Type 0} {r : FrontRules P V R} {about : R → About} {Holds : 
       heap_in_is : heap_in r asked (parts_of r.split told.holds.parts) ≡ told.holds.parts.heap
       heap_in_is = grind (arith, get_or_from_slice_get)
 
-      module _ {lines : List CallLine} {s : Kept} {used resident : ℕ} (is : lines ≡ calls locals order) (stand : AreStanding lines s) (used_is : used ≡ used_pages heap) where
-        pub totals_are : {count : ℕ} {rows : List RowView} → count ≡ length lines → resident ≡ backed_pages heap → rows ≡ map (row_of heap) (range_with_len 1 heap.config.huge)
-            → record { calls = count; live = s.count; live_bytes = s.bytes; used = used; resident = resident; rows = rows } ≡ totals_of (finished_in r about asked order)
-        totals_are {count} {rows} count_is resident_is rows_are = grind (arith, calls_are, heap_is, heap_in_is)
+      module _ {lines : List CallLine} {bytes used resident : ℕ} (is : lines ≡ calls locals order) (bytes_are : bytes ≡ live_bytes lines) (used_is : used ≡ used_pages heap) where
+        pub totals_are : {s : Kept} {count : ℕ} {rows : List RowView} → AreStanding lines s → count ≡ length lines → resident ≡ backed_pages heap
+            → rows ≡ map (row_of heap) (range_with_len 1 heap.config.huge)
+            → record { calls = count; live = s.count; live_bytes = bytes; used = used; resident = resident; rows = rows } ≡ totals_of (finished_in r about asked order)
+        totals_are {s} {count} {rows} stand count_is resident_is rows_are = grind (arith, calls_are, heap_is, heap_in_is)
 
-        pub covered_is : used ≡ sum_by (λ (x : Run). x.pages) heap.runs → used_pages heap ≤ resident → s.bytes ≤ resident * page_bytes
+        pub covered_is : used ≡ sum_by (λ (x : Run). x.pages) heap.runs → used_pages heap ≤ resident → bytes ≤ resident * page_bytes
         covered_is runs_are covers = grind (arith)
 
 -- of its parts alone

@@ -1,11 +1,11 @@
 -- What a call's answer makes of the blocks that stand.
-use Rattle.std.proofs.Common.{◌≡◌, ℕ, ◌+◌, ◌^◌, ◌≤◌, eqb, get_or, List, [], ◌∷◌, ◌++◌, length, take, Option, Some, None, refl, sym, ap, ◌∙◌, subst, arith}
-use Rattle.std.specs.Prelude.{count_by, find, sum_by}
+use Rattle.std.proofs.Common.{◌≡◌, ℕ, ◌+◌, ◌^◌, ◌≤◌, eqb, List, [], ◌∷◌, ◌++◌, length, take, Option, Some, None, refl, sym, ap, ◌∙◌, subst, arith}
+use Rattle.std.specs.Prelude.{count_by, find, is_some, sum_by, true, unwrap_or}
 use Rattle.std.specs.Option.{option_or}
 use Rattle.std.proofs.lemmas.List.{length-append}
 use Rattle.std.proofs.Math.Seq.{take-append_seam}
-use Rattle.std.proofs.lemmas.List.Sums.{sum_by-cons}
-use Rattle.std.proofs.lemmas.Option.{slice_get_within, slice_get-get_or}
+use Rattle.std.proofs.lemmas.List.Elements.{All-append, All-cons, All-head, All-nil, All-tail}
+use Rattle.std.proofs.lemmas.List.Sums.{sum_by-append, sum_by-cons}
 use Rattle.std.proofs.lemmas.Bool.Decides.{nat_tests}
 use Rattle.tc_units.specs.declared.units.Addr.{Addr}
 use Rattle.tc_units.specs.declared.units.Label.{Label}
@@ -23,7 +23,7 @@ use Rattle.holdings.proofs.Standing.{answer_same}
 use Rattle.holdings.proofs.Blocks.{apart_after, place_of}
 use Rattle.tc_machine.specs.Arena.{most_huge}
 use Rattle.tc_machine.specs.declared.standing.Standing.{Standing}
-use Rattle.tc_machine.specs.Standing.{known_bytes, bytes_of_label, AreBytesOf, AreStanding, MayStand}
+use Rattle.tc_machine.specs.Standing.{bytes_of_label, bytes_of_labels, AreNoted, AreBytesOf, AreStanding, MayStand}
 use Rattle.tc_machine.specs.Telling.{HearsEach}
 
 -- where none begins at an address, none is found there
@@ -50,12 +50,24 @@ leaves_one a (x ∷ xs) b once found = grind (
   sum_by-cons (λ (y : Extent). y.len) x (without_block a xs),
 )
 
--- what is noted of a label stands at its place
-noted_is : (o : Option ℕ) (len : ℕ) → known_bytes o ≡ Some len → o ≡ Some len
-noted_is o len is = grind (arith)
+-- where what is noted of some labels stays, so do their bytes
+pub record StillNoted (lens lens' : List ℕ) (labels : List Label) : Type 0 where
+  pub noted : AreNoted lens' labels
+  pub bytes : bytes_of_labels lens' labels ≡ bytes_of_labels lens labels
 
-pub read_noted : (lens : List ℕ) (label len n : ℕ) → bytes_of_label lens label ≡ Some len → n ≡ get_or lens label n → n ≡ len
-read_noted lens label len n is read = grind (arith, noted_is, slice_get-get_or, slice_get_within)
+still_noted : (lens lens' : List ℕ) (labels : List Label) → ((label : ℕ) → is_some (bytes_of_label lens label) ≡ true → bytes_of_label lens' label ≡ bytes_of_label lens label)
+    → AreNoted lens labels → StillNoted lens lens' labels
+still_noted lens lens' [] stays noted = record { noted = All-nil _; bytes = refl }
+still_noted lens lens' (l ∷ ls) stays noted =
+    let IsNoted : List ℕ → Label → Type 0 = λ ns k. is_some (bytes_of_label ns k.0) ≡ true in
+    let bytes : List ℕ → Label → ℕ = λ ns k. unwrap_or (bytes_of_label ns k.0) 0 in
+    let here = All-head (IsNoted lens) l ls noted in
+    let same = stays l.0 here in
+    let rest = still_noted lens lens' ls stays (All-tail (IsNoted lens) l ls noted) in
+    record {
+      noted = All-cons (IsNoted lens') l ls (ap is_some same ∙ here) rest.noted;
+      bytes = omega (arith, sum_by-cons (bytes lens) l ls, sum_by-cons (bytes lens') l ls, rest.bytes, ap (λ o. unwrap_or o 0) same);
+    }
 
 -- An answer that is no block's and frees none changes nothing, and nothing is noted of it.
 pub record IsQuiet (answer : Answer) : Type 0 where
@@ -94,9 +106,10 @@ module _ (s : Standing) (line : CallLine) (huge : ℕ) (round : ℕ → ℕ) (ea
   -- what an allocation got is noted
   pub told_block : (addr : Addr) (len : ℕ) (label : Label) (size : ℕ) (s' : Standing) → line.answer ≡ Block addr len → line.call ≡ Malloc label size
       → bytes_of_label s'.lens.items label.0 ≡ option_or (bytes_of_label s.lens.items label.0) (Some len) → ((other : ℕ) → (label.0 ≡ other → ⊥) → bytes_of_label s'.lens.items other ≡ bytes_of_label s.lens.items other)
-      → s'.calls ≡ s.calls + 1 → s'.count ≡ s.count + 1 → s'.bytes ≡ s.bytes + len → AreStanding (earlier ++ line ∷ []) s'
-  told_block addr len label size s' is asks here others calls count bytes =
-      grind (arith, nat_tests, after, len_small, noted_first, answer_same, length-with_item, sum_by-with_item, counted, length-append)
+      → s'.calls ≡ s.calls + 1 → s'.count ≡ s.count + 1 → s'.bytes ≡ s.bytes + len → s'.freed.items ≡ s.freed.items → AreStanding (earlier ++ line ∷ []) s'
+  told_block addr len label size s' is asks here others calls count bytes freed =
+      let still = still_noted s.lens.items s'.lens.items s.freed.items (λ l noted. grind (arith, nat_tests, here, others)) stand.noted in
+      grind (arith, nat_tests, after, len_small, noted_first, answer_same, length-with_item, sum_by-with_item, counted, length-append, still.noted, still.bytes)
 
   -- another answer notes nothing
   quiet_lens : ((n : Option ℕ) → AreBytesOf (Some line.answer) n) → (label : ℕ) → AreBytesOf (answer_to label (earlier ++ line ∷ [])) (bytes_of_label s.lens.items label)
@@ -113,17 +126,23 @@ module _ (s : Standing) (line : CallLine) (huge : ℕ) (round : ℕ → ℕ) (ea
     pub freed_noted : bytes_of_label s.lens.items label.0 ≡ Some frees.len
     freed_noted = subst (λ (o : Option Answer). AreBytesOf o (bytes_of_label s.lens.items label.0)) frees.answered (stand.lens label.0)
 
-    pub freed_within : (frees.len ≤ s.bytes) × (1 ≤ s.count)
-    freed_within = (omega (arith, stand.bytes, one.bytes), omega (arith, stand.count, one.count))
+    pub one_stands : 1 ≤ s.count
+    one_stands = omega (arith, stand.count, one.count)
 
-    pub told_freed : (s' : Standing) → s'.calls ≡ s.calls + 1 → s'.lens.items ≡ s.lens.items → s'.count + 1 ≡ s.count → s'.bytes + frees.len ≡ s.bytes → AreStanding (earlier ++ line ∷ []) s'
-    told_freed s' calls lens count bytes =
+    pub told_freed : (s' : Standing) → s'.calls ≡ s.calls + 1 → s'.lens.items ≡ s.lens.items → s'.count + 1 ≡ s.count → s'.bytes ≡ s.bytes → s'.freed.items ≡ s.freed.items ++ label ∷ []
+        → AreStanding (earlier ++ line ∷ []) s'
+    told_freed s' calls lens count bytes freed =
         let e : blocks_after (earlier ++ line ∷ []) ≡ without_block addr.0 (blocks_after earlier) = after ∙ ap (blocks_with (blocks_after earlier)) is in
+        let IsNoted : Label → Type 0 = λ l. is_some (bytes_of_label s.lens.items l.0) ≡ true in
+        let bytes_at : Label → ℕ = λ l. unwrap_or (bytes_of_label s.lens.items l.0) 0 in
+        let noted : AreNoted s.lens.items (s.freed.items ++ label ∷ []) =
+        All-append IsNoted s.freed.items (label ∷ []) stand.noted (All-cons IsNoted label [] (ap is_some freed_noted) (All-nil IsNoted)) in
         record {
           calls = omega (arith, calls, stand.calls, length-append earlier (line ∷ []));
           lens = λ l. subst (λ ns. AreBytesOf (answer_to l (earlier ++ line ∷ [])) (bytes_of_label ns l)) (sym lens) (quiet_lens (λ n. subst (λ (a : Answer). AreBytesOf (Some a) n) (sym is) tt) l);
           count = omega (arith, count, stand.count, ap length e, one.count);
-          bytes = omega (arith, bytes, stand.bytes, ap (sum_by (λ (x : Extent). x.len)) e, one.bytes);
+          noted = rw (lens, freed) noted;
+          bytes = rw (lens, freed) (omega (arith, bytes, stand.bytes, ap (sum_by (λ (x : Extent). x.len)) e, one.bytes, sum_by-append bytes_at s.freed.items (label ∷ []), sum_by-cons bytes_at label [], ap (λ o. unwrap_or o 0) freed_noted));
           few = omega (arith, count, counted stand.few);
           small = omega (arith, bytes, stand.small, length-append earlier (line ∷ []));
         }

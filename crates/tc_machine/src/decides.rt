@@ -118,7 +118,7 @@ impl<F: LawfulFront, A: Answers> Decides for AllocMachine<F, A> {
         Ok(Totals {
             calls: standing.calls,
             live: standing.count,
-            live_bytes: standing.bytes,
+            live_bytes: standing.live_bytes(),
             used: heap.used_pages(),
             resident: heap.backed_pages(),
             rows: Listed::new(rows),

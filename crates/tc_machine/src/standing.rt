@@ -1,7 +1,9 @@
 //! The blocks that stand after some calls.
-ghost use Rattle.std.specs.Prelude.{◌≡◌, ◌≢◌, ◌≤◌, ◌^◌, ℕ, [], Some, OnOk};
+ghost use Rattle.std.specs.Prelude.{◌≡◌, ◌≢◌, ◌<◌, ◌≤◌, ◌^◌, ℕ, List, [], Some, OnOk, unwrap_or};
 ghost use Rattle.std.specs.Option.{option_or};
-ghost use Rattle.tc_machine.specs.Standing.{bytes_of_label, AreStanding};
+ghost use Rattle.tc_model.specs.Blocks.{live_bytes};
+ghost use Rattle.tc_model.specs.declared.answers.CallLine.{CallLine as Line};
+ghost use Rattle.tc_machine.specs.Standing.{bytes_of_label, bytes_of_labels, AreStanding};
 
 use crate::listener::Listener;
 use std::alloc::{AllocError, Global};
@@ -11,14 +13,29 @@ use tc_units::Label;
 /// More bytes than any block has.
 const NO_BLOCK: u64 = u64::MAX;
 
-/// How many calls there were, and the blocks that stand: their number, the bytes of all, and by label the bytes of the block that
-/// its allocation got, or `NO_BLOCK`.
+/// So many labels of freed blocks are kept until their bytes are taken away: a processor then waits for their places in memory
+/// together.
+const MOST_FREED: usize = 64;
+
+/// How many calls there were, and the blocks that stand: their number, and their bytes with those of the blocks that were freed
+/// last, whose labels are kept; and by label the bytes of the block that its allocation got, or `NO_BLOCK`.
 #[derive(Drop)]
 pub struct Standing {
     pub calls: u64,
     pub lens: Vec<u64>,
     pub count: u64,
     pub bytes: u64,
+    pub freed: Vec<Label>,
+}
+
+/// The bytes that are noted of a label's block, or none.
+fn bytes_of(lens: &[u64], label: Label) -> u64
+    ensures { result ≡ unwrap_or (bytes_of_label lens.now label.0) 0 }
+{
+    match lens.get(label.0 as usize) {
+        Some(len) if *len != NO_BLOCK => *len,
+        _ => 0,
+    }
 }
 
 impl Standing {
@@ -31,6 +48,37 @@ impl Standing {
             lens: Vec::new(alloc),
             count: 0,
             bytes: 0,
+            freed: Vec::new(alloc),
+        }
+    }
+
+    /// The bytes of the blocks that were freed last.
+    fn freed_bytes(&self) -> u64
+        requires { bytes_of_labels self.now.lens.items self.now.freed.items < 2 ^ 64 }
+        ensures { result ≡ bytes_of_labels self.now.lens.items self.now.freed.items }
+    {
+        let lens = self.lens.as_slice();
+        self.freed.iter().map(|label| bytes_of(lens, *label)).sum()
+    }
+
+    /// The bytes of the blocks that stand.
+    #[inline(never)]
+    pub fn live_bytes(&self) -> u64
+        requires { (earlier : List Line) × AreStanding earlier self.now }
+        ensures { (earlier : List Line) → AreStanding earlier self.now → result ≡ live_bytes earlier }
+    {
+        self.bytes - self.freed_bytes()
+    }
+
+    /// Takes away the bytes of the blocks that were freed last, once they are many.
+    #[inline(always)]
+    fn settle(&mut self)
+        requires { (earlier : List Line) × AreStanding earlier self.old }
+        ensures { (earlier : List Line) → AreStanding earlier self.old → AreStanding earlier self.new }
+    {
+        if self.freed.len() >= MOST_FREED {
+            self.bytes = self.live_bytes();
+            self.freed.clear();
         }
     }
 }
@@ -61,6 +109,7 @@ impl Listener for Standing {
 
     #[inline(always)]
     fn hear(&mut self, line: &CallLine) -> Result<(), AllocError> {
+        self.settle();
         self.calls += 1;
         match line.answer {
             Answer::Block { len, .. } => {
@@ -75,8 +124,8 @@ impl Listener for Standing {
                 let Call::Free { label } = line.call else {
                     unreachable!()
                 };
+                self.freed.push(label)?;
                 self.count -= 1;
-                self.bytes -= self.lens[label.0 as usize];
             }
             _ => {}
         }

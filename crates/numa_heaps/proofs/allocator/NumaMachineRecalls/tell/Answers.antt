@@ -66,7 +66,7 @@ returns-clause-totals g c =
     let h = holds_after c.args.self.now c.requires.moves c.requires.few in
     let heard = c.in_ok-listener.ensures in
     let pages = c.pages_of-pages.ensures in
-    totals_are h c.requires.run refl heard.standing heard.standing.calls pages.used pages.resident (c.new.ensures ∙ c.in_ok-rows.ensures)
+    totals_are h c.requires.run refl heard.standing heard.standing.calls (c.live_bytes.ensures _ heard.standing) pages.used pages.resident (c.new.ensures ∙ c.in_ok-rows.ensures)
 
 pub returns-clause-blocks : goal.returns-clause-blocks
 returns-clause-blocks g c =
@@ -81,4 +81,4 @@ returns-clause-scripts g c =
 pub returns-clause-covered : goal.returns-clause-covered
 returns-clause-covered g c =
     let h = holds_after c.args.self.now c.requires.moves c.requires.few in
-    covered_is h c.requires.run refl c.in_ok-listener.ensures.standing c.pages_of-pages.ensures.runs c.pages_of-pages.ensures.covers
+    covered_is h c.requires.run refl (c.live_bytes.ensures _ c.in_ok-listener.ensures.standing) c.pages_of-pages.ensures.runs c.pages_of-pages.ensures.covers

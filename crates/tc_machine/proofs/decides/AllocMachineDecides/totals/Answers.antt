@@ -23,14 +23,14 @@ returns-clause-totals g c =
     let told = told_by_parts (g.met.F.LawfulFront.lawful _ m.valid m.taken) (g.met.F.LawfulFront.shared _ c.args._order.now) (g.F.FrontEnd.split_is_within m.setting) c.requires.order c.requires.run in
     let there = ap (slice_get c.args.parts.now) (sym (place_is (g.F.FrontEnd.rules m.setting) (g.F.FrontEnd.same_rows m.setting) c.heap_place.ensures)) ∙ c.heap_of-heap.ensures in
     let rows = c.new.ensures ∙ (c.in_ok-rows.ensures ∙ ap (λ n. map (row_of c.heap_of-heap.result.now) (range_with_len 1 n)) (sym (huge_is told there))) in
-    totals_are told there refl c.requires.standing c.used_pages.ensures.value c.requires.standing.calls c.backed_pages.ensures.value rows
+    totals_are told there refl (c.live_bytes.ensures _ c.requires.standing) c.used_pages.ensures.value c.requires.standing c.requires.standing.calls c.backed_pages.ensures.value rows
 
 pub returns-clause-covered : goal.returns-clause-covered
 returns-clause-covered g c =
     let m = c.args.self.now in
     let told = told_by_parts (g.met.F.LawfulFront.lawful _ m.valid m.taken) (g.met.F.LawfulFront.shared _ c.args._order.now) (g.F.FrontEnd.split_is_within m.setting) c.requires.order c.requires.run in
     let there = ap (slice_get c.args.parts.now) (sym (place_is (g.F.FrontEnd.rules m.setting) (g.F.FrontEnd.same_rows m.setting) c.heap_place.ensures)) ∙ c.heap_of-heap.ensures in
-    covered_is told there refl c.requires.standing c.used_pages.ensures.value c.used_pages.ensures.runs c.backed_pages.ensures.covers
+    covered_is told there refl (c.live_bytes.ensures _ c.requires.standing) c.used_pages.ensures.value c.used_pages.ensures.runs c.backed_pages.ensures.covers
 
 pub returns-clause-most : goal.returns-clause-most
 returns-clause-most g c =
