@@ -21,7 +21,7 @@ const MOST_RAN: u32 = 256;
 fn note_ran(cpu: &mut CpuPart, is_open: bool)
     ensures { cpu.new ≡ record cpu.old { ran = min 256 (cpu.old.ran + 1); is_open = is_open } }
 {
-    cpu.ran = cpu.ran.saturating_add(1).min(MOST_RAN);
+    cpu.ran = cpu.ran.min(MOST_RAN - 1) + 1;
     cpu.is_open = is_open;
 }
 

@@ -1,5 +1,5 @@
 //! The blocks that stand after some calls.
-ghost use Rattle.std.specs.Prelude.{◌≡◌, ◌≢◌, ◌<◌, ◌≤◌, ◌^◌, ℕ, List, [], Some, OnOk, unwrap_or};
+ghost use Rattle.std.specs.Prelude.{◌≡◌, ◌≢◌, ◌<◌, ◌≤◌, ◌^◌, ℕ, List, [], length, Some, OnOk, unwrap_or};
 ghost use Rattle.std.specs.Option.{option_or};
 ghost use Rattle.tc_model.specs.Blocks.{live_bytes};
 ghost use Rattle.tc_model.specs.declared.answers.CallLine.{CallLine as Line};
@@ -74,7 +74,8 @@ impl Standing {
     #[inline(always)]
     fn settle(&mut self)
         requires { (earlier : List Line) × AreStanding earlier self.old }
-        ensures { (earlier : List Line) → AreStanding earlier self.old → AreStanding earlier self.new }
+        ensures standing { (earlier : List Line) → AreStanding earlier self.old → AreStanding earlier self.new }
+        ensures few { length self.new.freed.items < MOST_FREED }
     {
         if self.freed.len() >= MOST_FREED {
             self.bytes = self.live_bytes();
