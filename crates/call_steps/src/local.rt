@@ -13,15 +13,15 @@ use crate::step::{Asking, HeapStep, NamesStep, ShardStep, Step, Target};
 use rseq_core::{HAND_ROOM, Regs};
 use std::alloc::{AllocError, Global};
 use std::marker::Model;
-use tc_model::{Answer, Answered, Call, CallLine, Planned, Script};
-use tc_units::{Bag, Label, Listed, SpanRef, ThreadNo};
+use tc_model::{Answer, Answered, Call, CallLine, Plan, Planned, Script};
+use tc_units::{Bag, Label, SpanRef, ThreadNo};
 
 /// A thread's script, its place in it, the next act of the call there with what the call has in hand, and
 /// the answers of the calls that were decided.
 #[derive(Drop)]
 pub struct Local<F: FrontEnd, A: Answers = Bag<Answered>> {
     pub(crate) seat: F::Seat,
-    script: Listed<Planned>,
+    script: Plan,
     /// Calls that have ended.
     place: usize,
     pub(crate) step: Step<F::Row>,
@@ -58,12 +58,12 @@ impl<F: FrontEnd, A: Answers> Local<F, A> {
         ensures { IfOk result (λ l. l ≡ first_local (F.rules setting.now).calls thread ((F.rules setting.now).seats thread.0) script.calls) }
     {
         let Script { calls } = script;
-        let answers = A::open(alloc, calls.as_slice().len())?;
+        let answers = A::open(alloc, calls.len())?;
         let freed = Bag::open(alloc, HAND_ROOM)?;
         let mut regs = Regs::open(alloc, thread)?;
         let mut seat = F::seat(setting, thread);
         let mut step = Step::Ended;
-        let first = calls.as_slice().first().copied();
+        let first = calls.get(0);
         begin::<F>(setting, first, &mut seat, &mut regs, &mut step);
         Ok(Local {
             seat,
@@ -130,7 +130,7 @@ impl<F: FrontEnd, A: Answers> Local<F, A> {
         };
         CallLine {
             thread: self.regs.thread,
-            call: self.script.as_slice()[self.answers.count() - 1].call,
+            call: self.script.at(self.answers.count() - 1).call,
             answer: answered.answer,
         }
     }
@@ -215,7 +215,7 @@ impl<F: FrontEnd, A: Answers> Local<F, A> {
         ensures { self.new ≡ next_call (F.rules setting.now).calls (record self.old { ended = self.old.ended + 1 }) self.old.rest }
     {
         self.place += 1;
-        let planned = planned_at(self.script.as_slice(), self.place);
+        let planned = self.script.get(self.place);
         begin::<F>(
             setting,
             planned,
@@ -242,17 +242,10 @@ impl<F: FrontEnd> Local<F> {
     {
         CallLine {
             thread: self.regs.thread,
-            call: self.script.as_slice()[i].call,
+            call: self.script.at(i).call,
             answer: self.answers.as_slice()[i].answer,
         }
     }
-}
-
-/// What a script has at a place.
-fn planned_at(script: &[Planned], place: usize) -> Option<Planned>
-    ensures { result ≡ slice_get script.now place }
-{
-    script.get(place).copied()
 }
 
 /// The call that is planned next begins: its first act stands where the last one of the call before it stood, and the registers

@@ -8,8 +8,8 @@ use size_classes::ClassTable;
 use std::alloc::{AllocError, Global};
 use std::process::Abort;
 use std::test::Fail;
-use tc_model::{Call, Config, Planned, Script};
-use tc_units::{Class, CpuNo, Label, Listed, ThreadNo};
+use tc_model::{Call, Config, Plan, Planned, Script};
+use tc_units::{Class, CpuNo, Label, ThreadNo};
 
 /// Four CPUs in two domains.
 fn config() -> Config
@@ -37,14 +37,13 @@ fn setting_of(rt: &impl Abort, alloc: Global) -> Setting
 fn local_of(alloc: Global, setting: &Setting, call: Call) -> Result<CpuLocal, AllocError>
     requires { AreCpuLimits setting.now.config }
 {
-    let planned = vec![in alloc; Planned {
+    let mut calls = Plan::new(alloc);
+    calls.push(Planned {
         line: 5,
         call,
-        moved: None
-    }; 1]?;
-    let script = Script {
-        calls: Listed::new(planned),
-    };
+        moved: None,
+    })?;
+    let script = Script { calls };
     Local::new(alloc, setting, ThreadNo(3), script)
 }
 

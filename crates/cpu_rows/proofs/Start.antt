@@ -9,14 +9,10 @@ use Rattle.cpu_rows.proofs.Common.{domain_caches, front_parts, cpu_front, seat_a
 use Rattle.cpu_slab.proofs.Opened.{sound_opened}
 use Rattle.std.proofs.lemmas.List.Elements.{All-append, All-replicate}
 use Rattle.cpu_slab.specs.Slots as slots
+use Rattle.tc_model.proofs.Lists.{get_front}
 use Rattle.alloc_rules.proofs.First.{number_at}
 
 -- items of two lists joined, and of copies
-get_left : {X : Type 0} (xs ys : List X) (i : ℕ) → i < length xs → slice_get (xs ++ ys) i ≡ slice_get xs i
-get_left [] ys i low = absurd (omega arith)
-get_left (x ∷ xs) ys zero low = refl
-get_left (x ∷ xs) ys (suc i) low = get_left xs ys i (omega arith)
-
 get_right : {X : Type 0} (xs ys : List X) (n i : ℕ) → length xs + i ≡ n → slice_get (xs ++ ys) n ≡ slice_get ys i
 get_right [] ys n i is = let e : n ≡ i = omega (arith, is) in ap (slice_get ys) e
 get_right (x ∷ xs) ys zero i is = absurd (omega (arith, is))
@@ -36,7 +32,7 @@ copies_length (suc n) xs = omega (arith, length-append xs (copies n xs), copies_
 
 copies_get : {X : Type 0} (n d k : ℕ) (xs : List X) → d < n → k < length xs → slice_get (copies n xs) (d * length xs + k) ≡ slice_get xs k
 copies_get zero d k xs low within = absurd (omega arith)
-copies_get (suc n) zero k xs low within = grind (arith, get_left)
+copies_get (suc n) zero k xs low within = grind (arith, get_front)
 copies_get (suc n) (suc d) k xs low within = grind (arith, copies_get n d k xs (omega arith) within, get_right)
 
 all_copies : {X : Type 0} (P : X → Type 0) (n : ℕ) (xs : List X) → All P xs → All P (copies n xs)
@@ -95,7 +91,7 @@ module _ (rows : List ClassRow) (c : Config) where
         cpu = λ i low.
             (let first = replicate c.cpus (Cpu (first_cpu rows c)) in (
               first_cpu rows c,
-              get_left first (copies c.domains (domain_caches rows c)) i
+              get_front first (copies c.domains (domain_caches rows c)) i
                   (omega (arith, length-replicate c.cpus (Cpu (first_cpu rows c)), low)) ∙ copy_get c.cpus (Cpu (first_cpu rows c)) i low,
             ));
         cache = λ d k low within. (record { objects = []; room = c.transfer }, cache_first d k low within);

@@ -61,7 +61,7 @@ impl Books {
         let place = thread as usize;
         let script = scripts.get(place)?;
         let done = self.done.get(place)?;
-        let planned = script.calls.as_slice().get(*done)?;
+        let planned = script.calls.get(*done)?;
         Some(planned.call)
     }
 
@@ -286,7 +286,7 @@ fn has_left(done: &[usize], scripts: &[Script]) -> bool
     ensures { result ≡ list_any (λ t. nat_lt (slice_index done.now t) (length (script_at scripts.now t))) (range_with_len 0 (length scripts.now)) }
 {
     for thread in 0..scripts.len() {
-        if done[thread] < scripts[thread].calls.as_slice().len() {
+        if done[thread] < scripts[thread].calls.len() {
             return true;
         }
     }

@@ -3,8 +3,8 @@ use crate::AuditWhy::{Address, Arena, Form, Length, Lines, Missing, Order, Overl
 use crate::{AuditWhy, Verdict, audit, journal_law};
 use std::alloc::{AllocError, Global};
 use std::test::Fail;
-use tc_model::{Call, Config, Planned, Script};
-use tc_units::{Class, ClassRow, CpuNo, Label, Listed};
+use tc_model::{Call, Config, Plan, Planned, Script};
+use tc_units::{Class, ClassRow, CpuNo, Label};
 
 /// An arena of one hugepage: the bytes from 2097152 to 4194303.
 fn config() -> Config {
@@ -48,7 +48,7 @@ fn free(label: u32) -> Call {
 }
 
 fn script(alloc: Global, calls: &[Call]) -> Result<Script, AllocError> {
-    let mut planned = Vec::new(alloc);
+    let mut planned = Plan::new(alloc);
     for call in calls {
         planned.push(Planned {
             line: 1,
@@ -56,9 +56,7 @@ fn script(alloc: Global, calls: &[Call]) -> Result<Script, AllocError> {
             moved: None,
         })?;
     }
-    Ok(Script {
-        calls: Listed::new(planned),
-    })
+    Ok(Script { calls: planned })
 }
 
 /// The verdict on a journal of two threads.
@@ -277,7 +275,7 @@ fn other_calls(rt: HostRuntime) -> Result<(), Fail> {
 #[test]
 fn a_line_too_many(rt: HostRuntime) -> Result<(), Fail> {
     let alloc = rt.alloc();
-    let mut planned = Vec::new(alloc);
+    let mut planned = Plan::new(alloc);
     let mut text = Vec::new(alloc);
     for _line in 0..1_000_000 {
         planned.push(Planned {
@@ -288,9 +286,7 @@ fn a_line_too_many(rt: HostRuntime) -> Result<(), Fail> {
         text.extend_from_slice(b"r 0 1\n")?;
     }
     let full = text.len();
-    let scripts = [Script {
-        calls: Listed::new(planned),
-    }];
+    let scripts = [Script { calls: planned }];
     for (last, verdict) in [
         (b"calls 1000000\n".as_slice(), yes(1_000_000)),
         (b"".as_slice(), yes(1_000_000)),

@@ -9,6 +9,7 @@ use Rattle.std.proofs.lemmas.Option.{slice_get-map, slice_get_within}
 use Rattle.tc_units.specs.declared.spans.ClassRow.{ClassRow}
 use Rattle.tc_model.specs.Input.{Input, script_of}
 use Rattle.tc_model.specs.Run.{start}
+use Rattle.tc_model.proofs.Lists.{get_front}
 use Rattle.call_steps.specs.Rows.{under}
 use Rattle.alloc_rules.specs.Machine.{first_shards, first_of}
 use Rattle.alloc_rules.proofs.First.{number_at}
@@ -22,11 +23,6 @@ use Rattle.node_rules.specs.NumaLaw.{under_now}
 use Rattle.node_rules.proofs.ThreadGoes.{IsSeen}
 
 -- Lists of one length behind one another.
-get_front : {X : Type 0} (xs ys : List X) (i : ℕ) → i < length xs → slice_get (xs ++ ys) i ≡ slice_get xs i
-get_front [] ys i low = absurd (omega arith)
-get_front (x ∷ xs) ys zero low = refl
-get_front (x ∷ xs) ys (suc i) low = get_front xs ys i (omega arith)
-
 get_behind : {X : Type 0} (xs ys : List X) (i : ℕ) → slice_get (xs ++ ys) (length xs + i) ≡ slice_get ys i
 get_behind [] ys i = ap (slice_get ys) (omega arith)
 get_behind (x ∷ xs) ys i = grind (arith, get_behind xs ys i)

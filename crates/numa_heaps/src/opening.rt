@@ -17,7 +17,7 @@ use call_steps::Setting;
 use no_caches::{NoCaches, NoPart, PlainLocal};
 use std::alloc::{AllocError, Global};
 use tc_machine::parts_of;
-use tc_model::{Call, Config, Planned, Script};
+use tc_model::{Call, Config, Plan, Script};
 use tc_units::{Listed, ThreadNo};
 use trace_reader::Trace;
 
@@ -34,11 +34,11 @@ fn note_label(here: NodeNo, call: Call, owners: &mut [NodeNo])
 }
 
 /// Notes the labels that a thread of this node allocates.
-fn note_labels(here: NodeNo, calls: &[Planned], owners: &mut [NodeNo])
+fn note_labels(here: NodeNo, calls: &Plan, owners: &mut [NodeNo])
     ensures { owners.new ≡ owners_behind here owners.old calls.now }
 {
-    for planned in calls {
-        note_label(here, planned.call, owners);
+    for place in 0..calls.len() {
+        note_label(here, calls.at(place).call, owners);
     }
 }
 
@@ -57,7 +57,7 @@ fn owners_of(
     let mut owners = vec![in alloc; NodeNo(0); labels as usize]?;
     for thread in 0..scripts.len() {
         let here = nodes.home(config, ThreadNo(thread as u8));
-        note_labels(here, scripts[thread].calls.as_slice(), &mut owners);
+        note_labels(here, &scripts[thread].calls, &mut owners);
     }
     Ok(owners)
 }
@@ -77,14 +77,15 @@ fn route_of(
     alloc: Global,
     here: NodeNo,
     owners: &[NodeNo],
-    calls: &[Planned],
+    calls: &Plan,
 ) -> Result<Vec<NodeNo>, AllocError>
     ensures { IfOk result (λ route. route.items ≡ route_by here owners.now calls.now) }
 {
-    calls
-        .iter()
-        .map(|planned| node_of(here, owners, planned.call))
-        .collect(alloc)
+    let mut route = Vec::with_capacity(alloc, calls.len())?;
+    for place in 0..calls.len() {
+        route.push(node_of(here, owners, calls.at(place).call))?;
+    }
+    Ok(route)
 }
 
 /// The calls of a script at a node.
@@ -93,14 +94,15 @@ fn calls_at(
     node: NodeNo,
     here: NodeNo,
     owners: &[NodeNo],
-    calls: &[Planned],
-) -> Result<Vec<Planned>, AllocError>
-    ensures { IfOk result (λ kept. kept.items ≡ calls_by here owners.now node.0 calls.now) }
+    calls: &Plan,
+) -> Result<Plan, AllocError>
+    ensures { IfOk result (λ kept. kept ≡ calls_by here owners.now node.0 calls.now) }
 {
-    let mut kept = Vec::new(alloc);
-    for planned in calls {
+    let mut kept = Plan::new(alloc);
+    for place in 0..calls.len() {
+        let planned = calls.at(place);
         if node_of(here, owners, planned.call) == node {
-            kept.push(*planned)?;
+            kept.push(planned)?;
         }
     }
     Ok(kept)
@@ -113,7 +115,7 @@ fn here_of(
     nodes: Nodes,
     thread: ThreadNo,
     owners: &[NodeNo],
-    calls: &[Planned],
+    calls: &Plan,
 ) -> Result<Vec<PlainLocal>, AllocError>
     requires { 0 < setting.now.config.cpus }
     ensures { IfOk result (λ here. here.items ≡ locals_by setting.now nodes.count thread.0 owners.now calls.now nodes.count) }
@@ -122,9 +124,7 @@ fn here_of(
     let mut here = Vec::new(alloc);
     for node in 0..nodes.count() {
         let calls = calls_at(alloc, NodeNo(node), home, owners, calls)?;
-        let script = Script {
-            calls: Listed::new(calls),
-        };
+        let script = Script { calls };
         here.push(PlainLocal::new(alloc, setting, thread, script)?)?;
     }
     Ok(here)
@@ -137,7 +137,7 @@ fn thread_of(
     nodes: Nodes,
     thread: ThreadNo,
     owners: &[NodeNo],
-    calls: &[Planned],
+    calls: &Plan,
 ) -> Result<NumaLocal, AllocError>
     requires { 0 < setting.now.config.cpus }
     ensures { IfOk result (λ local. local ≡ thread_by setting.now nodes.count thread.0 owners.now calls.now) }
@@ -162,7 +162,7 @@ fn threads_of(
 {
     let mut locals = Vec::new(alloc);
     for thread in 0..scripts.len() {
-        let calls = scripts[thread].calls.as_slice();
+        let calls = &scripts[thread].calls;
         let thread = ThreadNo(thread as u8);
         locals.push(thread_of(alloc, setting, nodes, thread, owners, calls)?)?;
     }
@@ -180,18 +180,18 @@ fn label_end(call: Call) -> u64
 }
 
 /// The greatest label plus one that a script allocates, or 0.
-fn end_of(calls: &[Planned]) -> u64
+fn end_of(calls: &Plan) -> u64
     ensures { result ≡ end_of calls.now }
 {
     let mut end = 0;
-    for planned in calls {
-        end = end.max(label_end(planned.call));
+    for place in 0..calls.len() {
+        end = end.max(label_end(calls.at(place).call));
     }
     end
 }
 
 /// The same of a thread at this node, where that is the node asked for, and else 0.
-fn end_at(here: NodeNo, node: NodeNo, calls: &[Planned]) -> u64
+fn end_at(here: NodeNo, node: NodeNo, calls: &Plan) -> u64
     ensures { result ≡ end_at here.0 node.0 calls.now }
 {
     if here == node { end_of(calls) } else { 0 }
@@ -206,7 +206,7 @@ fn labels_at(nodes: Nodes, config: &Config, scripts: &[Script], node: NodeNo) ->
     let mut end = 0;
     for thread in 0..scripts.len() {
         let home = nodes.home(config, ThreadNo(thread as u8));
-        end = end.max(end_at(home, node, scripts[thread].calls.as_slice()));
+        end = end.max(end_at(home, node, &scripts[thread].calls));
     }
     end
 }

@@ -20,8 +20,8 @@ fn lesser(line: Option<u32>, other: Option<u32>) -> Option<u32>
 }
 
 /// The line of a call that the machine doesn't take.
-fn refused_at<M: Allocator>(planned: &Planned) -> Option<u32>
-    ensures { result ≡ refused_at M.takes planned.now }
+fn refused_at<M: Allocator>(planned: Planned) -> Option<u32>
+    ensures { result ≡ refused_at M.takes planned }
 {
     if M::can_take(planned.call) {
         None
@@ -35,8 +35,8 @@ fn refused_in<M: Allocator>(script: &Script) -> Option<u32>
     ensures { result ≡ refused_in M.takes script.now.calls }
 {
     let mut least = None;
-    for planned in script.calls.as_slice() {
-        least = lesser(least, refused_at::<M>(planned));
+    for place in 0..script.calls.len() {
+        least = lesser(least, refused_at::<M>(script.calls.at(place)));
     }
     least
 }

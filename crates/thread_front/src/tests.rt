@@ -7,8 +7,8 @@ use size_classes::ClassTable;
 use std::alloc::{AllocError, Global};
 use std::process::Abort;
 use std::test::Fail;
-use tc_model::{Call, Config, Planned, Script};
-use tc_units::{Label, Listed, ThreadNo};
+use tc_model::{Call, Config, Plan, Planned, Script};
+use tc_units::{Label, ThreadNo};
 use thread_cache::{CacheRow, CacheSeat};
 
 /// Four threads, with 100 bytes each at first.
@@ -36,14 +36,13 @@ fn setting_of(rt: &impl Abort, alloc: Global) -> Setting
 fn local_of(alloc: Global, setting: &Setting, call: Call) -> Result<CacheLocal, AllocError>
     requires { AreCacheLimits setting.now.config }
 {
-    let planned = vec![in alloc; Planned {
+    let mut calls = Plan::new(alloc);
+    calls.push(Planned {
         line: 5,
         call,
-        moved: None
-    }; 1]?;
-    let script = Script {
-        calls: Listed::new(planned),
-    };
+        moved: None,
+    })?;
+    let script = Script { calls };
     Local::new(alloc, setting, ThreadNo(3), script)
 }
 

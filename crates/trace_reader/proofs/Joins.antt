@@ -1,8 +1,8 @@
 -- All calls in trace order, from each thread's calls.
-use Rattle.std.proofs.Common.{◌≡◌, ℕ, ◌<◌, ◌≤◌, ◌==◌, List, [], ◌∷◌, ◌++◌, length, get_or, set, take, map, reverse, sym, ap, ◌∙◌, arith, if◌then◌else◌}
-use Rattle.std.proofs.lemmas.List.{take_at, get_or_push, length_push, length-take-le, get_or-take, take-map, reverse-append, map-set, get_or-set_same, get_or-set_other, get_or-map, length-map}
+use Rattle.std.proofs.Common.{◌≡◌, ℕ, ◌<◌, ◌≤◌, ◌==◌, List, [], ◌∷◌, ◌++◌, length, get_or, set, take, map, reverse, ap, ◌∙◌, arith, if◌then◌else◌}
+use Rattle.std.proofs.lemmas.List.{take_at, get_or_push, length_push, length-take-le, get_or-take, reverse-append, get_or-set_same, get_or-set_other, get_or-map, length-map}
 use Rattle.std.proofs.lemmas.List.FromFn.{fill_by_all}
-use Rattle.std.proofs.lemmas.Simd.{map-map}
+use Rattle.std.proofs.lemmas.Option.{slice_get-get_or}
 use Rattle.std.specs.List.{range_with_len}
 use Rattle.std.proofs.lemmas.Bool.Decides.{nat_tests}
 use Rattle.tc_model.specs.declared.calls.Script.{Script}
@@ -29,10 +29,9 @@ pub joined-push : (turns : List ThreadNo) (f g : ℕ → List Planned) (thread :
 joined-push turns f g thread p here others = grind (arith, nat_tests, all_but_last-push, reverse-append, joined-same, last_of-push)
 
 -- each thread's calls, where one thread has one call more
-pub scripts-push : {V : Type 0} (items : V → List Planned) (scripts : List V) (i : ℕ) (v w : V) (p : Planned) → i < length scripts → w ≡ get_or scripts i w
-    → items v ≡ items w ++ p ∷ [] → (t : ℕ)
-    → get_or (map items (set scripts i v)) t [] ≡ (if t == i then get_or (map items scripts) t [] ++ p ∷ [] else get_or (map items scripts) t [])
-scripts-push items scripts i v w p within was now t = grind (arith, nat_tests, length-map, map-set, get_or-map, get_or-set_same, get_or-set_other)
+pub scripts-push : (scripts : List (List Planned)) (i : ℕ) (v w : List Planned) (p : Planned) → i < length scripts → w ≡ get_or scripts i w → v ≡ w ++ p ∷ []
+    → (t : ℕ) → get_or (set scripts i v) t [] ≡ (if t == i then get_or scripts t [] ++ p ∷ [] else get_or scripts t [])
+scripts-push scripts i v w p within was now t = grind (arith, nat_tests, get_or-set_same, get_or-set_other, slice_get-get_or scripts i)
 
 -- all calls, where one thread has one call more
 pub calls_of-push : (calls more : Calls) (thread : ThreadNo) (p : Planned) → more.turns.items ≡ calls.turns.items ++ thread ∷ []
@@ -42,23 +41,19 @@ calls_of-push calls more thread p turns scripts = grind (arith, nat_tests, joine
 
 -- the same turns and scripts are the same calls
 pub script_at-same : (a b : Calls) → a.scripts ≡ b.scripts → (t : ℕ) → script_at a t ≡ script_at b t
-script_at-same a b scripts t = ap (λ ss. get_or (map (λ script. script.items) ss.items) t []) scripts
+script_at-same a b scripts t = ap (λ ss. get_or ss.items t []) scripts
 
 pub calls_of-same : (a b : Calls) → a.scripts ≡ b.scripts → a.turns ≡ b.turns → calls_of a ≡ calls_of b
 calls_of-same a b scripts turns = ap (λ ts. joined (reverse ts.items) (script_at a)) turns ∙ joined-same (reverse b.turns.items) (script_at a) (script_at b) (script_at-same a b scripts)
 
 -- the scripts of the first threads, from each thread's calls
-pub scripts-first : {V : Type 0} (items : V → List Planned) (scripts : List V) (script : ℕ → List Planned) (n : ℕ) → n ≤ length scripts
-    → ((t : ℕ) → get_or (map items scripts) t [] ≡ script t)
-    → map {B = Script} (λ v. record { calls = items v }) (take n scripts) ≡ map {B = Script} (λ t. record { calls = script t }) (range_with_len 0 n)
-scripts-first items scripts script n room each =
+pub scripts-first : (scripts : List (List Planned)) (script : ℕ → List Planned) (n : ℕ) → n ≤ length scripts → ((t : ℕ) → get_or scripts t [] ≡ script t)
+    → map {B = Script} (λ v. record { calls = v }) (take n scripts) ≡ map {B = Script} (λ t. record { calls = script t }) (range_with_len 0 n)
+scripts-first scripts script n room each =
     let as_script : List Planned → Script = λ calls. record { calls = calls } in
     let of_thread : ℕ → Script = λ t. record { calls = script t } in
-    let all = map items scripts in
-    let first = take n all in
-    let size : length first ≡ n = length-take-le n all (omega (arith, length-map scripts items)) in
-    let joined_maps : map as_script (map items (take n scripts)) ≡ map {B = Script} (λ v. record { calls = items v }) (take n scripts) = map-map as_script items (take n scripts) in
-    let front : map as_script (map items (take n scripts)) ≡ map as_script first = ap (map as_script) (sym (take-map items n scripts)) in
-    sym joined_maps ∙ front ∙ fill_by_all of_thread (map as_script first) n (as_script []) (length-map first as_script ∙ size) (λ k below.
+    let first = take n scripts in
+    let size : length first ≡ n = length-take-le n scripts (omega (arith, room)) in
+    fill_by_all of_thread (map as_script first) n (as_script []) (length-map first as_script ∙ size) (λ k below.
     let inside : k < length first = omega arith in
-    get_or-map as_script first k [] (as_script []) inside ∙ ap as_script (get_or-take n all k [] below ∙ each k))
+    get_or-map as_script first k [] (as_script []) inside ∙ ap as_script (get_or-take n scripts k [] below ∙ each k))

@@ -25,7 +25,7 @@ joined (thread ∷ earlier) scripts = joined earlier (λ t. if t == thread.0 the
 
 -- a thread's calls so far, and all calls so far
 abbrev pub script_at : Calls → ℕ → List Planned
-script_at calls thread = slice_index_or (map (λ script. script.items) calls.scripts.items) thread []
+script_at calls thread = slice_index_or calls.scripts.items thread []
 
 abbrev pub calls_of : Calls → List ThreadCall
 calls_of calls = joined (reverse calls.turns.items) (script_at calls)

@@ -4,8 +4,8 @@ ghost use Rattle.std.specs.List.{range_with_len};
 
 use crate::limits::MOST_LABELS;
 use std::alloc::{AllocError, Global};
-use tc_model::{Call, MOST_THREADS, Planned, Script};
-use tc_units::{Listed, ThreadNo};
+use tc_model::{Call, MOST_THREADS, Plan, Planned, Script};
+use tc_units::ThreadNo;
 
 /// What the calls so far did with a label.
 #[derive(Clone, Copy, Debug, PartialEq, Eq)]
@@ -19,7 +19,7 @@ pub enum LabelUse {
 #[derive(Drop)]
 pub struct Calls {
     /// The calls of each thread.
-    scripts: Vec<Vec<Planned>>,
+    scripts: Vec<Plan>,
     /// The thread of each call.
     turns: Vec<ThreadNo>,
     /// The greatest label of an allocation plus one, or 0.
@@ -40,7 +40,7 @@ impl Calls {
     {
         let mut scripts = Vec::with_capacity(alloc, MOST_THREADS)?;
         for _thread in 0..MOST_THREADS {
-            scripts.push(Vec::new(alloc))?;
+            scripts.push(Plan::new(alloc))?;
         }
         Ok(Calls {
             scripts,
@@ -150,13 +150,11 @@ impl Calls {
 }
 
 /// Each thread's calls as its script.
-fn as_scripts(alloc: Global, scripts: Vec<Vec<Planned>>) -> Result<Vec<Script>, AllocError>
-    ensures { IfOk result (λ r. r.items ≡ map (λ calls. record { calls = calls.items }) scripts.items) }
+fn as_scripts(alloc: Global, scripts: Vec<Plan>) -> Result<Vec<Script>, AllocError>
+    ensures { IfOk result (λ r. r.items ≡ map (λ calls. record { calls = calls }) scripts.items) }
 {
     scripts
         .into_iter()
-        .map(|calls| Script {
-            calls: Listed::new(calls),
-        })
+        .map(|calls| Script { calls })
         .collect(alloc)
 }

@@ -1,8 +1,9 @@
 //! Traces and order files that were read by hand.
 use crate::{LineWhy, OrderFault, OrderWhy, TraceFault, read_order, read_trace};
 use std::alloc::{AllocError, Global};
+use std::process::Abort;
 use std::test::Fail;
-use tc_model::{Call, Config, MoveTo, Planned};
+use tc_model::{Call, Config, MoveTo, Plan, Planned};
 use tc_units::{Class, CpuNo, Label, ThreadNo};
 
 /// The size classes of the traces.
@@ -15,6 +16,15 @@ fn repeated(alloc: Global, line: &[u8], times: u32) -> Result<Vec<u8>, AllocErro
         text.extend_from_slice(line)?;
     }
     Ok(text)
+}
+
+/// These calls are planned, and no others.
+fn assert_plan(rt: &impl Abort, plan: &Plan, calls: &[Planned]) {
+    assert_eq!(rt; plan.len(), calls.len());
+    for place in 0..calls.len() {
+        assert_eq!(rt; plan.get(place), Some(calls[place]));
+    }
+    assert_eq!(rt; plan.get(calls.len()), None);
 }
 
 #[test]
@@ -72,8 +82,8 @@ fn a_trace(rt: HostRuntime) -> Result<(), Fail> {
         planned(12, Call::Drain { cpu: CpuNo(0) }),
         planned(14, Call::Free { label: Label(5) }),
     ];
-    assert_eq!(rt; scripts[0].calls.as_slice(), calls.as_slice());
-    assert_eq!(rt; scripts[1].calls.as_slice(), [].as_slice());
+    assert_plan(&rt, &scripts[0].calls, calls.as_slice());
+    assert_plan(&rt, &scripts[1].calls, [].as_slice());
     let calls = [
         Planned {
             line: 6,
@@ -87,7 +97,7 @@ fn a_trace(rt: HostRuntime) -> Result<(), Fail> {
             },
         ),
     ];
-    assert_eq!(rt; scripts[2].calls.as_slice(), calls.as_slice());
+    assert_plan(&rt, &scripts[2].calls, calls.as_slice());
     Ok(())
 }
 

@@ -19,7 +19,7 @@ returns-then-done-thread c =
     let there : t < length c.args.scripts.now = omega arith in
     let calls = script_there c.args.scripts.now t c.index-scripts-thread.result there c.index-scripts-thread.is in
     let less : slice_index c.args.done.now t < length (script_at c.args.scripts.now t) =
-    omega (arith, c.if-done-thread.true, ap length c.as_slice.ensures, ap (λ (s : Script). length s.calls) c.index-scripts-thread.is, ap length calls) in
+    omega (arith, c.if-done-thread.true, c.len.ensures, ap (λ (s : Script). length s.calls) c.index-scripts-thread.is, ap length calls) in
     sym (any_in (λ u. nat_lt (slice_index c.args.done.now u) (length (script_at c.args.scripts.now u))) (length c.args.scripts.now) t there (lt-ltb _ (length (script_at c.args.scripts.now t)) less))
 
 pub loop-thread-preserved : goal.loop-thread-preserved

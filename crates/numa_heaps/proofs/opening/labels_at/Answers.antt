@@ -13,4 +13,4 @@ loop-thread-preserved c =
     let read = script_there c.args.scripts.now t c.index-scripts-thread.result c.loop-thread-test.true in
     let most : c.max-end.result ≡ max c.loop-thread.end c.end_at.result = search rules in
     let more = fold_more (λ m u. max m (end_at (here u) c.args.node.0 (script_at c.args.scripts.now u))) 0 t in
-    rw (most, c.end_at.ensures, c.home-home.ensures, c.as_slice.ensures, read, c.loop-thread.invariant, more)
+    rw (most, c.end_at.ensures, c.home-home.ensures, read, c.loop-thread.invariant, more)

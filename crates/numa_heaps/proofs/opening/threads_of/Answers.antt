@@ -14,4 +14,4 @@ loop-thread-preserved c =
     let at : ℕ → Beside NodeLocal = λ u. thread_by c.args.setting.now c.args.nodes.count u c.args.owners.now (script u) in
     let read = script_there c.args.scripts.now t c.index-scripts-thread.result c.loop-thread-test.true in
     let more = map-range_with_len_more at 0 t t (omega arith) in
-    rw (c.in_ok-push.ensures.items, c.in_ok-thread_of.ensures, c.as_slice-calls.ensures, read, c.loop-thread.invariant, more)
+    rw (c.in_ok-push.ensures.items, c.in_ok-thread_of.ensures, read, c.loop-thread.invariant, more)

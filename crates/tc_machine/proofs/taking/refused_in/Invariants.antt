@@ -2,5 +2,5 @@ use Rattle.std.proofs.Common.{◌≡◌, take}
 use Rattle.tc_machine.specs.Taken.{refused_in}
 use Rattle.tc_machine.proofs.taking.refused_in.Given as goal
 
-abbrev pub invariant-loop-planned : goal.invariant-loop-planned
-invariant-loop-planned g l = l.least ≡ refused_in g.M.Allocator.takes (take l.planned-index l.planned-items)
+abbrev pub invariant-loop-place : goal.invariant-loop-place
+invariant-loop-place g l = l.least ≡ refused_in g.M.Allocator.takes (take l.place l.script.calls)

@@ -1,4 +1,4 @@
-use Rattle.std.proofs.Common.{get_or, arith}
+use Rattle.std.proofs.Common.{arith}
 use Rattle.std.proofs.lemmas.List.{length-append}
 use Rattle.tc_model.proofs.Readings.{follow_more}
 use Rattle.tc_model.proofs.replay.Replay.follow_staying.Goals as goal

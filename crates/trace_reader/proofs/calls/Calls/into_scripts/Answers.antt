@@ -8,5 +8,5 @@ use Rattle.trace_reader.proofs.calls.Calls.into_scripts.Goals as goal
 pub returns-clause-scripts : goal.returns-clause-scripts
 returns-clause-scripts c =
     c.in_ok-scripts.ensures
-    ∙ ap (map {B = Script} (λ v. record { calls = v.items })) c.truncate.ensures.items
-    ∙ scripts-first (λ v. v.items) c.args.self.scripts.items (λ t. script_of t (calls_of c.args.self)) c.args.threads c.requires.room c.requires.kept.scripts
+    ∙ ap (map {B = Script} (λ v. record { calls = v })) c.truncate.ensures.items
+    ∙ scripts-first c.args.self.scripts.items (λ t. script_of t (calls_of c.args.self)) c.args.threads c.requires.room c.requires.kept.scripts
