@@ -12,6 +12,7 @@ move_of moves number = if number == 0 then None else slice_get moves (number - 1
 abbrev pub planned_of : List MoveTo → Entered → Planned
 planned_of moves e = record { line = e.line; moved = move_of moves e.moved; call = e.call }
 
+-- the calls of a plan
 abbrev pub planned_by : List MoveTo → List Entered → List Planned
 planned_by moves entered = map (planned_of moves) entered
 

@@ -1,5 +1,5 @@
 //! The calls that a thread plans, in little room.
-ghost use Rattle.std.specs.Prelude.{◌≡◌, ◌<◌, ◌≤◌, ◌++◌, ◌∷◌, [], List, length, slice_get, Some, OnOk, IfOk};
+ghost use Rattle.std.specs.Prelude.{◌≡◌, ◌<◌, ◌≤◌, ◌++◌, ◌∷◌, [], List, length, slice_get, Some, OnOk, OnErr, IfOk};
 ghost use Rattle.tc_model.specs.declared.calls.MoveTo.{MoveTo as Move};
 ghost use Rattle.tc_model.specs.Plans.{move_of, planned_of};
 
@@ -70,10 +70,11 @@ impl Plan {
         planned_of(self.moves.as_slice(), &self.calls[place])
     }
 
-    /// Plans one call more.
+    /// Plans one call more. Where memory is wanting, the calls are as before.
     #[inline(always)]
     pub fn push(&mut self, planned: Planned) -> Result<(), AllocError>
-        ensures { OnOk result (self.new ≡ self.old ++ planned ∷ []) }
+        ensures pushed { OnOk result (self.new ≡ self.old ++ planned ∷ []) }
+        ensures same { OnErr result (self.new ≡ self.old) }
     {
         let moved = enter_move(&mut self.moves, planned.moved)?;
         self.calls.push(Entered {
