@@ -18,7 +18,7 @@ use no_caches::{NoCaches, NoPart, PlainLocal};
 use std::alloc::{AllocError, Global};
 use tc_machine::parts_of;
 use tc_model::{Call, Config, Plan, Script};
-use tc_units::{Listed, ThreadNo};
+use tc_units::ThreadNo;
 use trace_reader::Trace;
 
 /// Notes the label that a call of a thread of this node allocates.
