@@ -12,6 +12,8 @@ use Rattle.name_table.specs.declared.table.NameState.TheVariants as name
 use Rattle.heap_rules.specs.Heap as heaps
 use Rattle.call_steps.specs.declared.step.Step.TheVariants as does
 use Rattle.call_steps.specs.declared.step.HeapStep.TheVariants as heap
+use Rattle.alloc_rules.proofs.{Effecting.finds_there, Effecting.releases_there}
+use Rattle.alloc_rules.proofs.Common.{class_row}
 use Rattle.alloc_rules.proofs.{Answering.answers_none, Elsewhere.refuses_there, PartFits.row_at_class, PartFits.some_size, Reached.there_is}
 use Rattle.alloc_rules.proofs.{Placing.IsAnswered, SerialGoes.wants_by, Serving.IsServed, Telling.takes_all, Telling.tells_first}
 use Rattle.alloc_rules.proofs.Same.{same_pages, same_spans, same_starts}
@@ -84,6 +86,10 @@ module _ {P V R : Type 0} {r : FrontRules P V R} {about : R → About} {planned 
   asked_some l (does.Heap (heap.NewSpan a)) n low shape is = grind (arith, row_at_class)
   asked_some l s n low shape is = absurd (cc)
 
+  -- a batch of its class has an object
+  batch_some : (l : Local V R) → l.regs.class.0 < length r.calls.rows → 0 < (class_row r.calls.rows l).batch
+  batch_some l low = (row_at_class r.calls.rows l valid.rows low).batch
+
   -- a block of a live run or of an object, in whichever order runs and spans stand
   standing : (x : Extent) → IsStanding r.calls.rows b x → IsStanding r.calls.rows (books_of r about Holds asked p locals) x
   standing x stands =
@@ -153,6 +159,8 @@ module _ {P V R : Type 0} {r : FrontRules P V R} {about : R → About} {planned 
         answers_none = λ t l at.
             let shaped = (served.works t l at).shaped in
             answers_none r about p.heap l (λ n is. none_exactly p.heap n served.placed.ok.heap wide (asked_some l l.step n shaped.class shaped.step is));
+        releases_there = λ t l at. releases_there r about p.heap l served.placed.ok.heap;
+        finds_there = λ t l x at there. finds_there r about x l (batch_some l (served.works t l at).shaped.class);
         refuses_there = λ t l at. refuses_there r about law.refuses l;
         spans_are_runs = λ n. omega (arith, f.begins n, starts_are n);
         run_is_once = λ n none. runs_alone (setup_of r asked) b (calls locals order) f n none ∙ starts_are n;

@@ -41,7 +41,9 @@ pub mod First
 pub mod Runs
 pub mod SerialLaws
 pub mod Telling
+pub mod Effecting
 pub mod Afterwards
+pub mod Along
 pub mod Laws
 pub mod ValidProp
 pub mod Orders

@@ -1,7 +1,7 @@
 -- The part is the one that the next act is on, and fits it; and the thread has done few acts.
 use Rattle.std.specs.Prelude.{◌≤◌, List}
 use Rattle.tc_units.specs.declared.spans.ClassRow.{ClassRow}
-use Rattle.tc_model.specs.declared.machine.TheConstants.{MOST_PICKS}
+use Rattle.tc_model.specs.Limits.{most_picks}
 use Rattle.rseq_core.specs.declared.regs.Regs.{Regs}
 use Rattle.call_steps.specs.Local.{Local}
 use Rattle.alloc_rules.specs.declared.part.Part.{Part}
@@ -18,4 +18,4 @@ module _ {P V R : Type 0} (rows : List ClassRow) (fits : P → V → Regs → R 
 
   pub record Fits (p : Part P) (l : Local V R) : Type 0 where
     pub step : fits_step p l
-    pub few : l.acts ≤ MOST_PICKS
+    pub few : l.acts ≤ most_picks

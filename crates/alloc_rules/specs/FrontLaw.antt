@@ -8,7 +8,7 @@ use Rattle.tc_model.specs.declared.calls.Call.{Call}
 use Rattle.tc_model.specs.declared.calls.Call.TheVariants.{Drain, Resize}
 use Rattle.tc_model.specs.declared.calls.Planned.{Planned}
 use Rattle.tc_model.specs.declared.answers.Answer.{Answer}
-use Rattle.tc_model.specs.declared.machine.TheConstants.{MOST_PICKS}
+use Rattle.tc_model.specs.Limits.{most_picks}
 use Rattle.rseq_core.specs.declared.regs.Regs.{Regs}
 use Rattle.rseq_core.specs.declared.regs.TheConstants.{HAND_ROOM, LOADED_ROOM}
 use Rattle.rseq_core.specs.Bags.{room}
@@ -101,12 +101,12 @@ pub record IsLawful {P V R : Type 0} (r : FrontRules P V R) (about : R → About
   pub none : (k n : ℕ) → sum_by (λ p. r.stored p k n) r.parts ≡ 0
   pub split : r.split ≤ length r.parts
   -- where it holds, the part of a row is there and fits
-  pub ready : (n : ℕ) (ps : List P) (us : List (Standing V R)) (t : ℕ) (v : V) (g : Regs) (count : ℕ) (row : R) → n ≤ MOST_PICKS → count ≤ n → Holds n ps us → slice_get us t ≡ Some (stand v g count (Here row)) → IsReady r t g (about row) → FitsAt r fits ps v g row
+  pub ready : (n : ℕ) (ps : List P) (us : List (Standing V R)) (t : ℕ) (v : V) (g : Regs) (count : ℕ) (row : R) → n ≤ most_picks → count ≤ n → Holds n ps us → slice_get us t ≡ Some (stand v g count (Here row)) → IsReady r t g (about row) → FitsAt r fits ps v g row
   -- its act moves objects and goes on as it may
-  pub does : (n : ℕ) (ps : List P) (us : List (Standing V R)) (t : ℕ) (p : P) (v : V) (g : Regs) (count : ℕ) (row : R) → n ≤ MOST_PICKS → count ≤ n → Holds n ps us → slice_get us t ≡ Some (stand v g count (Here row)) → slice_get ps (r.place v g row) ≡ Some p → IsReady r t g (about row)
+  pub does : (n : ℕ) (ps : List P) (us : List (Standing V R)) (t : ℕ) (p : P) (v : V) (g : Regs) (count : ℕ) (row : R) → n ≤ most_picks → count ≤ n → Holds n ps us → slice_get us t ≡ Some (stand v g count (Here row)) → slice_get ps (r.place v g row) ≡ Some p → IsReady r t g (about row)
       → IsAct r about p g row (r.acts p v g row)
   -- and keeps the invariant
-  pub acts : (n : ℕ) (ps : List P) (us : List (Standing V R)) (t : ℕ) (p : P) (v : V) (g : Regs) (count : ℕ) (row : R) → n ≤ MOST_PICKS → count ≤ n → Holds n ps us → slice_get us t ≡ Some (stand v g count (Here row)) → slice_get ps (r.place v g row) ≡ Some p → IsReady r t g (about row)
+  pub acts : (n : ℕ) (ps : List P) (us : List (Standing V R)) (t : ℕ) (p : P) (v : V) (g : Regs) (count : ℕ) (row : R) → n ≤ most_picks → count ≤ n → Holds n ps us → slice_get us t ≡ Some (stand v g count (Here row)) → slice_get ps (r.place v g row) ≡ Some p → IsReady r t g (about row)
       → (let x = r.acts p v g row in Holds (n + 1) (slice_set ps (r.place v g row) x.part) (slice_set us t (stand x.seat (regs_next x.regs x.next) (count + 1) (at_next x.next))))
   -- so do acts elsewhere, which are picks too: they may change the hand and the class, and come to a row that was to come later
   pub passes : (n : ℕ) (ps : List P) (us : List (Standing V R)) → Holds n ps us → Holds (n + 1) ps us

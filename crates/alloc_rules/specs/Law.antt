@@ -40,6 +40,7 @@ use Rattle.alloc_rules.specs.Standings.{Standing, standing_of}
 use Rattle.call_steps.specs.Fronts.{FrontRules}
 use Rattle.alloc_rules.specs.Fits.{Fits}
 use Rattle.alloc_rules.specs.Answers.{AnswersNone, RefusesThere}
+use Rattle.alloc_rules.specs.Effects.{ReleasesThere, FindsThere}
 
 -- the calls of a run: those that the picks of an order decided, in their order
 abbrev pub calls : {V R : Type 0} → List (Local V R) → List ℕ → List CallLine
@@ -116,6 +117,10 @@ module _ {P V R : Type 0} (r : FrontRules P V R) (about : R → About) (Holds : 
     pub none_where_none_fits : (n : ℕ) → 0 < n → (new parts.heap n ≡ None) ↔ (none_fits parts.heap n ≡ true)
     -- an act that asks it for a run answers none exactly there
     pub answers_none : (t : ℕ) (l : Local V R) → slice_get locals t ≡ Some l → AnswersNone r about parts.heap l
+    -- an act that releases pages unbacks as many as are asked for, or all that it may, and tells how many
+    pub releases_there : (t : ℕ) (l : Local V R) → slice_get locals t ≡ Some l → ReleasesThere r about parts.heap l
+    -- an act that fetches misses exactly where the transfer list and the spans of its shard have nothing to give
+    pub finds_there : (t : ℕ) (l : Local V R) (x : Shard) → slice_get locals t ≡ Some l → slice_get parts.shards l.regs.class.0 ≡ Some x → FindsThere r about x l
     -- no other act refuses a call
     pub refuses_there : (t : ℕ) (l : Local V R) → slice_get locals t ≡ Some l → RefusesThere r about l
     -- a shard's span, and one that a call holds, begins where a live run does

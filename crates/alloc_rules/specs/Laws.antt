@@ -7,7 +7,7 @@ use Rattle.tc_units.specs.declared.spans.SpanKind.{SpanKind}
 use Rattle.tc_units.specs.declared.spans.SpanKind.TheVariants.{Small, Large}
 use Rattle.tc_model.specs.declared.calls.Planned.{Planned}
 use Rattle.tc_model.specs.declared.answers.CallLine.{CallLine}
-use Rattle.tc_model.specs.declared.machine.TheConstants.{MOST_PICKS}
+use Rattle.tc_model.specs.Limits.{most_picks}
 use Rattle.page_map.specs.Spans.{SpanMap, holds}
 use Rattle.name_table.specs.declared.table.NameState.{NameState}
 use Rattle.central_free.specs.Central.{IsSound, opening}
@@ -85,7 +85,7 @@ module _ {P V R : Type 0} (r : FrontRules P V R) (about : R → About) (planned 
 
   abbrev pub FrontActsKeep : Type 0
   FrontActsKeep = (n t : ℕ) (ps : List P) (us : List (Standing V R)) (l : Local V R) (p : P) (row : R) → AreRows r.calls.rows
-      → IsShaped r.calls.rows about planned t l → l.step ≡ does.Front row → n ≤ MOST_PICKS → l.acts ≤ n → Holds n ps us
+      → IsShaped r.calls.rows about planned t l → l.step ≡ does.Front row → n ≤ most_picks → l.acts ≤ n → Holds n ps us
       → slice_get us t ≡ Some (standing_of l) → slice_get ps (r.place l.seat l.regs row) ≡ Some p → FrontKept n t ps us l p row
 
 -- What acts do to the books.

@@ -11,6 +11,7 @@ pub mod Valid
 pub mod Inputs
 pub mod Told
 pub mod Answers
+pub mod Effects
 pub mod Law
 pub mod Lawful
 pub mod Laws

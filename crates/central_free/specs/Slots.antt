@@ -6,6 +6,10 @@ use Rattle.span_list.specs.Span.{SpanState, first_byte, free_count, taken_count}
 use Rattle.central_free.specs.declared.ranking.Standing.{Standing}
 use Rattle.central_free.specs.Ranking.{no_standing, standing_at}
 
+-- the least number of slots by which their room grows
+abbrev pub least_room : ℕ
+least_room = 4
+
 -- how much a span is to be emptied: its taken objects, and 0 where none is free
 abbrev pub weight : SpanState → ℕ
 weight s = if free_count s == 0 then 0 else taken_count s

@@ -1,6 +1,6 @@
 //! The spans of one size class in the order of their first pages, and which of them serves next.
 ghost use Rattle.std.specs.Prelude.{◌≡◌, ◌≢◌, ℕ, ◌+◌, ◌-◌, ◌*◌, ◌^◌, ◌/◌, ◌<◌, ◌≤◌, ◌↔◌, ◌⊎◌, Bool, true, [], ◌∷◌, ◌++◌, All, Any, IfOk, IfSome};
-ghost use Rattle.std.specs.Prelude.{MatchOption, OnErr, OnOk, Some, None, count_by, drop, length, map, min, nat_le, replicate, slice_index, vec_len};
+ghost use Rattle.std.specs.Prelude.{MatchOption, OnErr, OnOk, Some, None, count_by, drop, length, map, max, min, nat_le, replicate, slice_index, vec_len};
 ghost use Rattle.std.specs.Prelude.{vec_capacity, AllPairs};
 ghost use Rattle.std.specs.List.{flat_map};
 ghost use Rattle.std.specs.Option.{option_to_list};
@@ -10,7 +10,7 @@ ghost use Rattle.tc_units.specs.declared.units.Addr.{Addr};
 ghost use Rattle.span_list.specs.Span.{all_free, objects_of, free_objects, free_count, first_byte};
 ghost use Rattle.central_free.specs.Central.{taken_one, taken, has_free, opened, opening, with_span, put_one, put_all, IsTakenIn, AreDifferent, IsApartFrom, IsBefore, IsSound, free_in};
 ghost use Rattle.central_free.specs.Ranking.{standing_at};
-ghost use Rattle.central_free.specs.Slots.{weight, standing_of, slot_at, spans_of, IsKept, IsLastBegun};
+ghost use Rattle.central_free.specs.Slots.{least_room, weight, standing_of, slot_at, spans_of, IsKept, IsLastBegun};
 
 use crate::ranking::{Ranking, Standing};
 use crate::runs::take_some;
@@ -77,22 +77,31 @@ fn last_begun(order: &BTreeMap<u64, u32>, address: u64) -> usize
     }
 }
 
-/// Makes room for one more span, and for its standing: an eighth more where there is none.
+/// By how many slots their room grows: an eighth of what there is and a few, so to at most twice of it but for the first few.
+fn more_for(slots: usize) -> usize
+    ensures some { 0 < result }
+    ensures few { result ≤ max slots least_room }
+{
+    slots / 8 + LEAST_ROOM
+}
+
+/// Makes room for one more span, and for its standing, if there is none. The number of standings grows to at most twice the
+/// number of the slots that were in use, and a few.
 fn make_room(slots: &mut Slab<Span>, ranking: &mut Ranking) -> Result<(), AllocError>
     ensures slots { slots.new.slots ≡ slots.old.slots }
     ensures room { OnOk result (HasRoomFor slots.new 1) }
     ensures slot { OnOk result (slots.new.vacant_key < length ranking.new) }
     ensures few { OnOk result (slots.new.vacant_key < 2 ^ 32) }
     ensures longer { length ranking.old ≤ length ranking.new }
+    ensures most { length ranking.new ≤ max (length ranking.old) (slots.old.vacant_key + max slots.old.vacant_key least_room) }
     ensures standings { (k : ℕ) → standing_at ranking.new k ≡ standing_at ranking.old k }
 {
     if slots.len() == slots.capacity() {
-        slots.reserve_exact(slots.len() / 8 + LEAST_ROOM)?;
+        slots.reserve_exact(more_for(slots.len()))?;
     }
     let slot = slots.vacant_key();
     if slot >= ranking.len() {
-        let more = slot / 8 + LEAST_ROOM;
-        ranking.grow(slot.checked_add(more).ok_or(AllocError)?)?;
+        ranking.grow(slot.checked_add(more_for(slot)).ok_or(AllocError)?)?;
     }
     Ok(())
 }

@@ -5,3 +5,4 @@ pub mod FetchesMove
 pub mod AddsMove
 pub mod GivesMove
 pub mod SpansAreCut
+pub mod FetchFinds

@@ -1,2 +1,3 @@
 pub mod Shard
 pub mod Laws
+pub mod Finds

@@ -1,9 +1,15 @@
 //! The laws of a shard as a value: what a fetch, a new span and a giving leave, and how its spans are cut.
 ghost use Rattle.class_shard.specs.Laws.{FetchMoves, AddMoves, GiveMoves, SpansAreCut, DifferByCount};
+ghost use Rattle.class_shard.specs.Finds.{FetchFinds};
 
 /// A fetch moves objects out of the shard, no more than are asked for, and keeps the spans.
 pub fn fetches_move()
     ensures { FetchMoves }
+{}
+
+/// A fetch finds nothing only where the shard has nothing.
+pub fn fetches_find()
+    ensures { FetchFinds }
 {}
 
 /// A new span brings its objects, the first of which leave the shard.

@@ -6,5 +6,7 @@ mod shard;
 #[cfg(test)]
 mod tests;
 
-pub use laws::{adds_move, counted_once_differ, fetches_move, gives_move, spans_are_cut};
+pub use laws::{
+    adds_move, counted_once_differ, fetches_find, fetches_move, gives_move, spans_are_cut,
+};
 pub use shard::{ClassShard, Fetched};

@@ -4,6 +4,9 @@ mod Acts
 mod Answering
 mod Entering
 mod Switching
+mod Sitting
+mod Growing
+pub mod DrainCounts
 pub mod Afterwards
 mod Anywhere
 pub mod CpuLaw

@@ -4,7 +4,7 @@ use Rattle.tc_units.specs.declared.units.Class.{Class}
 use Rattle.tc_units.specs.declared.spans.ClassRow.{ClassRow}
 use Rattle.tc_model.specs.declared.calls.Planned.{Planned}
 use Rattle.tc_model.specs.declared.config.Config.{Config}
-use Rattle.tc_model.specs.declared.machine.TheConstants.{MOST_PICKS}
+use Rattle.tc_model.specs.Limits.{most_picks}
 use Rattle.rseq_core.specs.declared.cpu_part.CpuPart.{CpuPart}
 use Rattle.rseq_core.specs.declared.regs.Regs.{Regs}
 use Rattle.rseq_core.specs.declared.regs.TheConstants.{LOADED_ROOM}
@@ -33,7 +33,7 @@ cpu_planned rows c = IsPlanned (limits_of rows c)
 
 -- what an act needs of its part; at a CPU the thread has executed few instructions
 abbrev pub cpu_fits : List ClassRow → CpuFrontPart → CpuSeat → Regs → CpuRow → Type 0
-cpu_fits rows (Cpu p) v g (front.Cpu row) = FitsCpu rows p v g row × (g.ran ≤ MOST_PICKS)
+cpu_fits rows (Cpu p) v g (front.Cpu row) = FitsCpu rows p v g row × (g.ran ≤ most_picks)
 cpu_fits rows (Domain c t) v g (front.Domain row) = FitsDomain rows g row
 cpu_fits rows p v g row = ⊥
 

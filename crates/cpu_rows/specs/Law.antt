@@ -1,6 +1,7 @@
 -- What holds of the allocator over the per-CPU caches between any two picks, in every order of its threads' picks.
 use Rattle.std.specs.Prelude.{◌≡◌, ℕ, ◌+◌, ◌*◌, ◌≤◌, List, length, Some, slice_get}
 use Rattle.tc_units.specs.declared.units.Class.{Class}
+use Rattle.tc_units.specs.declared.units.CpuNo.{CpuNo}
 use Rattle.tc_model.specs.Input.{Input}
 use Rattle.tc_model.specs.Run.{start}
 use Rattle.tc_model.specs.Chains.{IsPolite}
@@ -20,6 +21,7 @@ use Rattle.cpu_rows.specs.Machine.{front_of, rules}
 use Rattle.alloc_rules.specs.Inputs.{IsValidInput}
 use Rattle.cpu_rows.specs.Answers.{AnswersBusy, AnswersCap}
 use Rattle.cpu_rows.specs.Switches.{SwitchesAreFew}
+use Rattle.cpu_rows.specs.Effects.{GrowsThere, DrainsThere, MovesThere}
 
 -- After the picks of an order, each of which moved: what holds over any front-end, and what holds of the caches.
 pub record HoldsAfter (input : Input) (order : List ℕ) : Type 0 where
@@ -42,6 +44,12 @@ pub record HoldsAfter (input : Input) (order : List ℕ) : Type 0 where
   pub answers_busy : (i t : ℕ) (p : CpuPart) (l : Local) → slice_get all.parts.fronts i ≡ Some (Cpu p) → slice_get all.locals t ≡ Some l → AnswersBusy input p l
   -- a capacity is refused exactly above the static one, or else past the limit
   pub answers_cap : (i t : ℕ) (p : CpuPart) (l : Local) → slice_get all.parts.fronts i ≡ Some (Cpu p) → slice_get all.locals t ≡ Some l → AnswersCap input p l
+  -- a growth raises a capacity exactly where the rule lets it, by how much the rule says
+  pub grows_there : (i t : ℕ) (p : CpuPart) (l : Local) → slice_get all.parts.fronts i ≡ Some (Cpu p) → slice_get all.locals t ≡ Some l → GrowsThere input p l
+  -- a drain is answered by how many objects left the CPU's slab in its acts, of which that has none then
+  pub drains_there : (t : ℕ) (p : CpuPart) (l : Local) (c : CpuNo) → slice_get all.parts.fronts c.0 ≡ Some (Cpu p) → slice_get all.locals t ≡ Some l → DrainsThere input order t l p c
+  -- a thread whose call ends with a planned move stands at the CPU of the move then
+  pub moves_there : (t : ℕ) (l : Local) → slice_get all.locals t ≡ Some l → MovesThere input t l
   -- where each pick was polite, at each CPU the acts In are at most one more than the exits, commits and acts Grow, Leave and Back
   pub switches : IsPolite (rules input) (start (rules input)) order → SwitchesAreFew (rules input) order
 

@@ -11,4 +11,5 @@ pub mod Laws
 pub mod Machine
 pub mod Answers
 pub mod Switches
+pub mod Effects
 pub mod Law

@@ -4,3 +4,4 @@ pub mod LaidOut
 pub mod GrowthFacts
 pub mod BestVictim
 pub mod Opened
+pub mod GrownExactly

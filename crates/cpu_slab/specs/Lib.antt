@@ -3,3 +3,4 @@ pub mod Growth
 pub mod Sound
 pub mod Caps
 pub mod Layout
+pub mod Grows

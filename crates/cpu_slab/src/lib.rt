@@ -9,5 +9,5 @@ mod slots;
 #[cfg(test)]
 mod tests;
 
-pub use laws::victims_are_best;
+pub use laws::{growth_is_exact, victims_are_best};
 pub use slab::{CapFault, Slab};

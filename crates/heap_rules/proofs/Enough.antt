@@ -34,14 +34,14 @@ free_part h x = cond (is_free_backed x) 256 0
 abbrev idle_part : List Run → ℕ → Hugepage → ℕ
 idle_part runs h x = cond (is_region x && used_count runs h == 0 && list_all (λ b. b) x.backed) 256 0
 
-abbrev spare_of : List Run → ℕ → Hugepage → ℕ
+abbrev pub spare_of : List Run → ℕ → Hugepage → ℕ
 spare_of runs h x = count_by (λ page. backs x page && not (is_used runs page)) (pages_of h)
 
 abbrev spare_part : List Run → ℕ → Hugepage → ℕ
 spare_part runs h x = cond (is_filler x) (spare_of runs h x) 0
 
 -- all together
-abbrev total : (ℕ → Hugepage → ℕ) → Heap → ℕ
+abbrev pub total : (ℕ → Hugepage → ℕ) → Heap → ℕ
 total part heap = sum_by (λ h. part h (hugepage heap h)) (numbers heap)
 
 -- of a hugepage without used pages, which is backed whole or not at all
@@ -66,7 +66,7 @@ only_second a b same = omega arith
 only_third : (a : ℕ) → 0 + (0 + a) ≡ a
 only_third a = omega arith
 
-none_spared : (runs : List Run) (h : ℕ) (x : Hugepage) → length x.backed ≡ 256 → HasNoUsed runs h → spare_of runs h x ≡ backed_count x
+pub none_spared : (runs : List Run) (h : ℕ) (x : Hugepage) → length x.backed ≡ 256 → HasNoUsed runs h → spare_of runs h x ≡ backed_count x
 none_spared runs h x size none =
     let test : ℕ → Bool = λ p. backs x p && is_used runs p in
     let len = length-map-range_with_len test (256 * h) 256 in
@@ -127,10 +127,10 @@ no_spare runs h x k e other = let none : is_filler x ≡ false = ap (is_kind kin
 no_idle : (runs : List Run) (h : ℕ) (x : Hugepage) (k : RowKind) → x.kind ≡ k → is_kind kind.Region k ≡ false → idle_part runs h (unbacked x) ≡ idle_part runs h x
 no_idle runs h x k e other = let none : is_region x ≡ false = ap (is_kind kind.Region) e ∙ other in rw none refl
 
-free_kind : (heap : Heap) (h : ℕ) → 0 < h → h ≤ length heap.hugepages → at_number false (map is_free_backed heap.hugepages) h ≡ true → (hugepage heap h).kind ≡ kind.Free
+pub free_kind : (heap : Heap) (h : ℕ) → 0 < h → h ≤ length heap.hugepages → at_number false (map is_free_backed heap.hugepages) h ≡ true → (hugepage heap h).kind ≡ kind.Free
 free_kind heap h from to flag = grind (arith, nat_tests, map-at, is_Free)
 
-idle_kind : (heap : Heap) (h : ℕ) → 0 < h → h ≤ length heap.hugepages → at_number false (map (is_idle heap) (numbers heap)) h ≡ true → (hugepage heap h).kind ≡ kind.Region
+pub idle_kind : (heap : Heap) (h : ℕ) → 0 < h → h ≤ length heap.hugepages → at_number false (map (is_idle heap) (numbers heap)) h ≡ true → (hugepage heap h).kind ≡ kind.Region
 idle_kind heap h from to flag = grind (arith, nat_tests, idle_at, is_Region)
 
 -- Each step gives all its part, or as many as are wanted.
@@ -159,12 +159,17 @@ spare_gives heap n =
     sum-map' (λ r. r.spare) (spare_row heap) (filter (λ h. is_filler (hugepage heap h)) (numbers heap)) ∙ sum-filter (spare_pages heap) (λ h. is_filler (hugepage heap h)) (numbers heap) in
     subst (λ p. Gives n (spare_given heap n).pages p) all (spared.all_or_enough (spare_rows heap) n)
 
--- So all three do.
-three_steps : (n a b c x y z : ℕ) → Gives n a x → Gives (n - a) b y → Gives (n - (a + b)) c z → (n ≤ a + b + c → n ≤ x + (y + z)) × (n ≤ x + (y + z) → n ≤ a + b + c)
+-- So all three do; and where they give fewer than are wanted, they give all.
+pub record AreGiven (n pages givable : ℕ) : Type 0 where
+  pub needs : n ≤ pages → n ≤ givable
+  pub gives : n ≤ givable → n ≤ pages
+  pub all : pages < n → pages ≡ givable
+
+three_steps : (n a b c x y z : ℕ) → Gives n a x → Gives (n - a) b y → Gives (n - (a + b)) c z → AreGiven n (a + b + c) (x + (y + z))
 three_steps n a b c x y z x7 second third = grind (arith)
 
-pub release_is_enough : ReleaseIsEnough
-release_is_enough heap n sound =
+pub release_gives : (heap : Heap) (n : ℕ) → IsSound heap → AreGiven n (release heap n).pages (givable_pages heap)
+release_gives heap n sound =
     let a : Released = free_given heap n in
     let b : Released = idle_given a.heap (n - a.pages) in
     let runs : List Run = heap.runs in
@@ -175,8 +180,10 @@ release_is_enough heap n sound =
     let spare_same : total (spare_part runs) b.heap ≡ total (spare_part runs) heap =
     whole_keeps idle a.heap (n - a.pages) (spare_part runs) (λ h from to flag. no_spare runs h (hugepage a.heap h) kind.Region (idle_kind a.heap h from to flag) refl)
     ∙ whole_keeps free heap n (spare_part runs) (λ h from to flag. no_spare runs h (hugepage heap h) kind.Free (free_kind heap h from to flag) refl) in
-    let pages : ℕ = (release heap n).pages in
-    subst (λ m. (n ≤ pages → n ≤ m) × (n ≤ m → n ≤ pages)) (sym (givable_is heap sound))
+    subst (λ m. AreGiven n (release heap n).pages m) (sym (givable_is heap sound))
     (three_steps n a.pages b.pages (spare_given b.heap (n - (a.pages + b.pages))).pages (total free_part heap) (total (idle_part runs) heap) (total (spare_part runs) heap)
     (free_gives heap n) (subst (λ p. Gives (n - a.pages) b.pages p) idle_same (idle_gives a.heap (n - a.pages)))
     (subst (λ p. Gives (n - (a.pages + b.pages)) (spare_given b.heap (n - (a.pages + b.pages))).pages p) spare_same (spare_gives b.heap (n - (a.pages + b.pages)))))
+
+pub release_is_enough : ReleaseIsEnough
+release_is_enough heap n sound = let given = release_gives heap n sound in (given.needs, given.gives)

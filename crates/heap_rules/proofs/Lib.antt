@@ -22,5 +22,6 @@ pub mod NoneBacked
 pub mod Orders
 pub mod Spared
 pub mod Enough
+pub mod ReleaseDoes
 mod Placing
 mod Unbacking

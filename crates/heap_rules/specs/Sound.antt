@@ -1,6 +1,6 @@
 -- What holds of every heap that calls can reach.
 use Rattle.std.specs.Prelude.{◌≡◌, ℕ, ◌+◌, ◌*◌, ◌<◌, ◌≤◌, Bool, true, false, length, count_by, List, All, Contains}
-use Rattle.tc_units.specs.Units.{huge_pages}
+use Rattle.tc_units.specs.Units.{huge_pages, most_huge}
 use Rattle.tc_units.specs.Arena.{IsInArena}
 use Rattle.tc_units.specs.declared.spans.Run.{Run}
 use Rattle.tc_units.specs.declared.rows.RowKind.{RowKind}
@@ -11,8 +11,8 @@ use Rattle.heap_rules.specs.Heap.{Heap, Hugepage, hugepage, whole, holds, is_use
 -- the limits that a heap may be opened with
 pub record AreLimits (config : HeapConfig) : Type 0 where
   pub huge_from : 1 ≤ config.huge
-  pub huge_to : config.huge ≤ 4096
-  pub cache : config.cache ≤ 4096
+  pub huge_to : config.huge ≤ most_huge
+  pub cache : config.cache ≤ most_huge
   pub region_from : 2 ≤ config.region
   pub region_to : config.region ≤ 512
   pub slack : config.slack ≤ 1048576

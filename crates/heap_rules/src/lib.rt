@@ -2,6 +2,7 @@
 #![tactic(auto)]
 
 ghost use Rattle.heap_rules.specs.Laws.{NewGives, FreeLeaves, ReleaseKeeps, NoneIsBacked, ReleaseIsEnough};
+ghost use Rattle.heap_rules.specs.ReleaseDoes.{ReleaseDoes};
 
 mod config;
 
@@ -30,4 +31,9 @@ pub fn none_is_backed()
 /// A release answers at least what is asked exactly where so many pages may be given.
 pub fn release_is_enough()
     ensures { ReleaseIsEnough }
+{}
+
+/// A release unbacks as many pages as are asked for, or all that it may, and tells how many.
+pub fn release_does()
+    ensures { ReleaseDoes }
 {}

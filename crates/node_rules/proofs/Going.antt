@@ -11,7 +11,7 @@ use Rattle.std.proofs.lemmas.List.Elements.{All-append, All-cons, All-nil, filte
 use Rattle.std.proofs.lemmas.List.Sums.{fold-append}
 use Rattle.std.proofs.lemmas.Option.{slice_get_within}
 use Rattle.std.proofs.lemmas.Bool.Decides.{nat_tests}
-use Rattle.tc_model.specs.declared.machine.TheConstants.{MOST_PICKS}
+use Rattle.tc_model.specs.Limits.{most_picks}
 use Rattle.tc_model.specs.declared.steps.Stepped.TheVariants as step
 use Rattle.tc_model.specs.declared.answers.CallLine.{CallLine}
 use Rattle.tc_model.specs.Calls.{picks_of, AreAt, AreOfPicks, AreRising}
@@ -126,7 +126,7 @@ module _ (nodes : ℕ) (input : Input) (valid : IsValidInput input) (taken : not
     pub owned : AreOfNodes nodes (owner nodes input valid) lines
 
   -- Behind an order one pick more moves.
-  module _ (order : List ℕ) (few : length order < MOST_PICKS) (h : IsRun order) (t : ℕ)
+  module _ (order : List ℕ) (few : length order < most_picks) (h : IsRun order) (t : ℕ)
       (m : IsMove (rules_at nodes input 0) (λ (l : NodeLocal). l.answers) (width_of input) huge (first_parts nodes input)
       (map (first_thread nodes input) (range_with_len 0 input.asked.config.threads)) (run numa order) t) where
     abbrev w : World NodePart (Beside NodeLocal)

@@ -11,7 +11,7 @@ use Rattle.std.proofs.lemmas.List.Sums.{fold-append}
 use Rattle.std.proofs.lemmas.Option.{slice_get-get_or, slice_get-map, slice_get_past, slice_get_within}
 use Rattle.tc_units.specs.Classes.{length_of}
 use Rattle.tc_model.specs.declared.machine.PartNo.{PartNo}
-use Rattle.tc_model.specs.declared.machine.TheConstants.{MOST_PICKS}
+use Rattle.tc_model.specs.Limits.{most_picks}
 use Rattle.tc_model.specs.declared.calls.Call.{Call}
 use Rattle.tc_units.specs.declared.spans.ClassRow.{ClassRow}
 use Rattle.holdings.proofs.Sums.{of_all}
@@ -139,7 +139,7 @@ module _ (nodes : ℕ) (input : Input) (valid : IsValidInput input) (taken : not
   pub each_run : (order : List ℕ) → IsOrder numa order → Run order
   each_run order of =
       let Q : World NodePart (Beside NodeLocal) → List ℕ → Type 0 = λ w past. (w ≡ run numa past) × Run past in
-      let kept : IsKeptWith MOST_PICKS numa Q =
+      let kept : IsKeptWith most_picks numa Q =
       λ w past t l place p few q local want there waits.
       let picked : pick numa w t ≡ with_pair w place.0 t (numa.after p l) = rw (local, want, there, waits) refl in
       let moved : stepped numa w t ≡ step.Moved = rw (local, want, there, waits) refl in
@@ -149,7 +149,7 @@ module _ (nodes : ℕ) (input : Input) (valid : IsValidInput input) (taken : not
       (ap (λ (v : World NodePart (Beside NodeLocal)). stepped numa v t) (sym q.0) ∙ moved) in
       (sym (goes ∙ picked), goes_on nodes input valid taken some past few q.1 t m)
       in
-      (run_keeps_with MOST_PICKS numa Q kept (refl, started) order of.few of.moves).1
+      (run_keeps_with most_picks numa Q kept (refl, started) order of.few of.moves).1
 
   -- What a thread wants is wanted at the node of its call.
   record IsWant (l : Beside NodeLocal) (part : PartNo) : Type 0 where

@@ -4,7 +4,7 @@ use Rattle.tc_units.specs.Classes.{length_of}
 use Rattle.tc_units.specs.declared.spans.ClassRow.{ClassRow}
 use Rattle.tc_model.specs.declared.answers.Answer.{Answer}
 use Rattle.tc_model.specs.declared.answers.Answer.TheVariants.{Block, Freed}
-use Rattle.tc_model.specs.declared.machine.TheConstants.{MOST_PICKS}
+use Rattle.tc_model.specs.Limits.{most_picks}
 use Rattle.tc_model.specs.Calls.{picks_of, AreRising}
 use Rattle.tc_model.specs.Input.{Input}
 use Rattle.tc_model.specs.Run.{World, start, run}
@@ -53,8 +53,8 @@ pub record IsOneAct (x new : NodeLocal) : Type 0 where
 -- a part fits what a thread has at the node of its call, its numbers are few, and an act there is one
 pub record FitsThread (rows : List ClassRow) (p : NodePart) (l : Beside NodeLocal) : Type 0 where
   pub now : IsSomeAnd (local_now l) (Fits rows fits p)
-  pub acts : l.acts ≤ MOST_PICKS
-  pub ended : l.ended ≤ MOST_PICKS
+  pub acts : l.acts ≤ most_picks
+  pub ended : l.ended ≤ most_picks
   pub goes : (x : NodeLocal) → local_now l ≡ Some x → waits p x ≡ false → IsOneAct x (after (no_caches rows) about_none p x).1
 
 module _ (nodes : ℕ) (input : Input) where

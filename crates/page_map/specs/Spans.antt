@@ -1,9 +1,8 @@
 -- The spans of an arena, in the order of their first pages, and the pages that they hold.
 use Rattle.std.specs.Prelude.{ℕ, ◌+◌, ◌<◌, ◌≤◌, ◌⊎◌, Bool, ◌&&◌, nat_lt, nat_le, List, All, AllPairs}
-use Rattle.tc_units.specs.Units.{huge_pages}
+use Rattle.tc_units.specs.Units.{huge_pages, most_huge}
 use Rattle.tc_units.specs.Arena.{IsInArena}
 use Rattle.tc_units.specs.Sorted.{with_item, without_key}
-use Rattle.tc_units.specs.declared.units.TheConstants.{MOST_HUGE}
 use Rattle.tc_units.specs.declared.spans.SpanRef.{SpanRef}
 
 -- a page map as contracts see it: how many hugepages the arena has, and its spans in the order of their first pages
@@ -38,6 +37,6 @@ AreApart s t = IsBefore s t ⊎ IsBefore t s
 -- the arena has a size that the units allow, each span is inside it, and each ends before the later ones begin
 pub record IsWellFormed (map : SpanMap) : Type 0 where
   pub some : 0 < map.huge
-  pub few : map.huge ≤ MOST_HUGE
+  pub few : map.huge ≤ most_huge
   pub inside : All (IsInside map.huge) map.spans
   pub apart : AllPairs IsBefore map.spans

@@ -1,6 +1,6 @@
 //! Spans in the order of their first pages, and the one that holds a page.
 ghost use Rattle.std.specs.Prelude.{◌≡◌, ℕ, ◌<◌, ◌≤◌, ◌↔◌, [], false, find, All, Contains, IfOk, IfSome, IsNone, IsTrue, OnErr, OnOk, if◌then◌else◌};
-ghost use Rattle.tc_units.specs.declared.units.TheConstants.{MOST_HUGE};
+ghost use Rattle.tc_units.specs.Units.{most_huge};
 ghost use Rattle.page_map.specs.Spans.{holds, with_span, without_span, IsInside, AreApart, IsWellFormed};
 
 use crate::leaves::Leaves;
@@ -43,7 +43,7 @@ impl PageMap {
     /// The map of an arena of `huge` hugepages in which no span is set.
     pub fn open(alloc: Global, huge: u32) -> Result<Self, AllocError>
         requires some { 0 < huge }
-        requires few { huge ≤ MOST_HUGE }
+        requires few { huge ≤ most_huge }
         ensures empty { IfOk result (λ map. map ≡ record { huge = huge; spans = [] }) }
         ensures well_formed { IfOk result IsWellFormed }
     {

@@ -119,6 +119,10 @@ struct Hold {
 }
 
 impl Gate for Hold {
+    ghost use Rattle.std.specs.Prelude.{⊤};
+
+    ghost has_let = { λ gate thread turn done. ⊤ };
+
     fn pass(&self, thread: ThreadNo, turn: u64, _done: u64) {
         if thread.0 == 1 {
             self.turns.store(turn, Ordering::SeqCst);

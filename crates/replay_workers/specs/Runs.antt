@@ -9,6 +9,14 @@ use Rattle.tc_model.specs.Turns.{is_halted}
 use Rattle.tc_units.specs.declared.units.ThreadNo.{ThreadNo}
 use Rattle.replay_workers.specs.declared.worker.Worker.{Worker}
 
+-- after how many turns in a row that move nothing a worker's thread ends: some seconds of naps. It is more than none.
+abbrev pub patience : ℕ
+patience = 30000
+
+-- the most microseconds of one nap of a worker that waits
+abbrev pub most_nap : ℕ
+most_nap = 100
+
 -- whether a worker whose last turn had this answer takes no more
 abbrev pub is_over : Turn → Bool
 is_over Moved = false

@@ -2,11 +2,10 @@
 //! calling one, and that one ends what all left.
 ghost use Rattle.std.specs.Prelude.{◌≡◌, length, All, None, vec_capacity};
 ghost use Rattle.tc_model.specs.declared.board.Turn.TheVariants as turn;
-ghost use Rattle.replay_workers.specs.Runs.{halt_of, Done, RanBelow, RunEach, IsReady};
+ghost use Rattle.replay_workers.specs.Runs.{halt_of, patience, Done, RanBelow, RunEach, IsReady};
 
 use crate::started::{come, start};
 use crate::together::{is_done, run_here};
-use crate::turns::PATIENCE;
 use crate::worker::Worker;
 use std::alloc::Global;
 use std::sync::Wait;
@@ -33,7 +32,7 @@ where
     requires { All (IsReady (B.fits board.now)) workers.items }
     ensures long { length result.items ≡ length workers.items }
     ensures room { vec_capacity result ≡ vec_capacity workers }
-    ensures each { RunEach (B.turns board.now) (B.thread_of board.now) (B.fits board.now) PATIENCE workers.items result.items }
+    ensures each { RunEach (B.turns board.now) (B.thread_of board.now) (B.fits board.now) patience workers.items result.items }
 {
     let place = workers.len();
     if place < 2 {
@@ -67,7 +66,7 @@ where
     B::Hand: Drop,
     requires { All (IsReady (B.fits board.now)) workers.items }
     ensures long { length result.items ≡ length workers.items }
-    ensures each { RunEach (B.turns board.now) (B.thread_of board.now) (B.fits board.now) PATIENCE workers.items result.items }
+    ensures each { RunEach (B.turns board.now) (B.thread_of board.now) (B.fits board.now) patience workers.items result.items }
 {
     let no_place = AtomicUsize::new(0);
     let refused = &no_place;
@@ -77,7 +76,7 @@ where
         move |scope| -> Vec<Worker<B>>
             requires { All (IsReady (B.fits board.now)) workers.items }
             ensures long { length result.items ≡ length workers.items }
-            ensures each { RunEach (B.turns board.entry.now) (B.thread_of board.entry.now) (B.fits board.entry.now) PATIENCE workers.items result.items }
+            ensures each { RunEach (B.turns board.entry.now) (B.thread_of board.entry.now) (B.fits board.entry.now) patience workers.items result.items }
         { run_in(scope, rt, alloc, board, gate, refused, workers) },
     )
 }

@@ -1,8 +1,8 @@
 //! A thread for a worker, which comes back with it.
 ghost use Rattle.std.specs.Prelude.{◌≡◌, IfOk, IfErr};
-ghost use Rattle.replay_workers.specs.Runs.{Ran, HasRun, IsReady, Stands};
+ghost use Rattle.replay_workers.specs.Runs.{patience, Ran, HasRun, IsReady, Stands};
 
-use crate::turns::{PATIENCE, run_alone};
+use crate::turns::run_alone;
 use crate::worker::Worker;
 use std::alloc::Global;
 use std::snapshot::Snapshot;
@@ -23,7 +23,7 @@ fn run_unless_refused<R: Wait, B: Board, G: Gate>(
     mut worker: Worker<B>,
 ) -> Result<Worker<B>, Worker<B>>
     requires { IsReady (B.fits board.now) worker }
-    ensures ran { IfOk result (λ w. HasRun (B.turns board.now) (B.thread_of board.now) (B.fits board.now) PATIENCE worker w) }
+    ensures ran { IfOk result (λ w. HasRun (B.turns board.now) (B.thread_of board.now) (B.fits board.now) patience worker w) }
     ensures back { IfErr result (λ w. w ≡ worker) }
 {
     if refused.load(Ordering::SeqCst) == place {
@@ -42,10 +42,9 @@ pub(crate) struct Comes<B: Board> {
 
 impl<B: Board> Promise<Result<Worker<B>, Worker<B>>> for Comes<B> {
     ghost use Rattle.std.specs.Prelude.{◌≡◌, IfOk, IfErr};
-    ghost use Rattle.replay_workers.specs.Runs.{HasRun};
-    ghost use Rattle.replay_workers.specs.declared.turns.TheConstants.{PATIENCE};
+    ghost use Rattle.replay_workers.specs.Runs.{patience, HasRun};
 
-    ghost kept_by = { λ p r. IfOk r (HasRun (B.turns p.board.value) (B.thread_of p.board.value) (B.fits p.board.value) PATIENCE p.was.value) × IfErr r (λ w. w ≡ p.was.value) };
+    ghost kept_by = { λ p r. IfOk r (HasRun (B.turns p.board.value) (B.thread_of p.board.value) (B.fits p.board.value) patience p.was.value) × IfErr r (λ w. w ≡ p.was.value) };
 }
 
 /// A thread of a worker.
@@ -74,7 +73,7 @@ where
     };
     let run = move || -> Result<Worker<B>, Worker<B>>
         requires { IsReady (B.fits board.now) worker }
-        ensures ran { IfOk result (HasRun (B.turns board.entry.now) (B.thread_of board.entry.now) (B.fits board.entry.now) PATIENCE worker) }
+        ensures ran { IfOk result (HasRun (B.turns board.entry.now) (B.thread_of board.entry.now) (B.fits board.entry.now) patience worker) }
         ensures back { IfErr result (λ w. w ≡ worker) }
     { run_unless_refused(rt, alloc, board, gate, refused, place, worker) };
     match scope.spawn_with(promise, run) {
@@ -98,7 +97,7 @@ pub(crate) fn come<R: Threads + Wait, B: Board, G: Gate>(
 ) -> Worker<B>
     requires board { handle.promise.board.value ≡ board.now }
     requires ready { IsReady (B.fits board.now) handle.promise.was.value }
-    ensures { HasRun (B.turns board.now) (B.thread_of board.now) (B.fits board.now) PATIENCE handle.promise.was.value result }
+    ensures { HasRun (B.turns board.now) (B.thread_of board.now) (B.fits board.now) patience handle.promise.was.value result }
 {
     match handle.join(rt) {
         Ok(worker) => worker,

@@ -102,6 +102,10 @@ struct Watch<'a> {
 }
 
 impl Gate for Watch<'_> {
+    ghost use Rattle.std.specs.Prelude.{⊤};
+
+    ghost has_let = { λ gate thread turn done. ⊤ };
+
     fn pass(&self, thread: ThreadNo, turn: u64, _done: u64) {
         self.passes.fetch_add(1, Ordering::SeqCst);
         if turn == 0 {
@@ -132,6 +136,10 @@ impl Hold {
 }
 
 impl Gate for Hold {
+    ghost use Rattle.std.specs.Prelude.{⊤};
+
+    ghost has_let = { λ gate thread turn done. ⊤ };
+
     fn pass(&self, _thread: ThreadNo, turn: u64, _done: u64) {
         if turn > 0 {
             return;

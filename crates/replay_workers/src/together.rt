@@ -1,6 +1,6 @@
 //! Workers that one thread runs in turn.
 ghost use Rattle.std.specs.Prelude.{◌≡◌, length, ◌↔◌, IsTrue, All, false, true, vec_capacity};
-ghost use Rattle.replay_workers.specs.Runs.{is_over, Done, RanBelow, RunEach, StillBelow, Stands};
+ghost use Rattle.replay_workers.specs.Runs.{is_over, patience, Done, RanBelow, RunEach, StillBelow, Stands};
 
 use crate::turns::{PATIENCE, give_way, has_ended, run_on};
 use crate::worker::Worker;
@@ -44,7 +44,7 @@ fn run_together<R: Wait, B: Board, G: Gate>(
     workers: &mut [Worker<B>],
 )
     requires { All (Stands (B.fits board.now)) workers.old }
-    ensures { RunEach (B.turns board.now) (B.thread_of board.now) (B.fits board.now) PATIENCE workers.old workers.new }
+    ensures { RunEach (B.turns board.now) (B.thread_of board.now) (B.fits board.now) patience workers.old workers.new }
 {
     let mut idle = 0;
     for _ in rt.forever() {
@@ -72,7 +72,7 @@ pub(crate) fn run_here<R: Wait, B: Board, G: Gate>(
     requires { All (Stands (B.fits board.now)) workers.items }
     ensures long { length result.items ≡ length workers.items }
     ensures room { vec_capacity result ≡ vec_capacity workers }
-    ensures each { RunEach (B.turns board.now) (B.thread_of board.now) (B.fits board.now) PATIENCE workers.items result.items }
+    ensures each { RunEach (B.turns board.now) (B.thread_of board.now) (B.fits board.now) patience workers.items result.items }
 {
     run_together(rt, alloc, board, gate, workers.as_mut_slice());
     workers

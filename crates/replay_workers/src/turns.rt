@@ -1,6 +1,6 @@
 //! The turns of one worker, until it has waited for long.
-ghost use Rattle.std.specs.Prelude.{◌≡◌, false};
-ghost use Rattle.replay_workers.specs.Runs.{is_over, Ran, GivesUpAfter, IsStill, IsReady, Stands};
+ghost use Rattle.std.specs.Prelude.{◌≡◌, ◌≤◌, false};
+ghost use Rattle.replay_workers.specs.Runs.{is_over, most_nap, patience, Ran, GivesUpAfter, IsStill, IsReady, Stands};
 
 use crate::worker::Worker;
 use std::alloc::Global;
@@ -36,11 +36,13 @@ fn pass_gate<B: Board, G: Gate>(
     requires thread { thread ≡ B.thread_of board.now worker.now.hand }
     requires turn { turn ≡ worker.now.turns }
     requires done { done ≡ B.done_of board.now worker.now.hand }
+    ensures { G.has_let gate.now (B.thread_of board.now worker.now.hand) worker.now.turns (B.done_of board.now worker.now.hand) }
 {
     gate.pass(thread, turn, done);
 }
 
-/// Passes the gate and takes one turn.
+/// Takes one turn, after the gate has let the worker's thread take it: the one of its number, when as many of the thread's calls
+/// had ended as the board says.
 fn turn_once<R: Wait, B: Board, G: Gate>(
     rt: &R,
     alloc: Global,
@@ -50,6 +52,7 @@ fn turn_once<R: Wait, B: Board, G: Gate>(
 )
     requires fits { B.fits board.now worker.old.hand }
     requires goes { is_over worker.old.last ≡ false }
+    ensures asked { G.has_let gate.now (B.thread_of board.now worker.old.hand) worker.old.turns (B.done_of board.now worker.old.hand) }
     ensures turned { B.turns board.now worker.old.hand worker.new.last worker.new.hand }
     ensures ran { Ran (B.turns board.now) (B.thread_of board.now) worker.old worker.new }
     ensures kept { Stands (B.fits board.now) worker.new }
@@ -61,11 +64,18 @@ fn turn_once<R: Wait, B: Board, G: Gate>(
     worker.turns = worker.turns.saturating_add(1);
 }
 
+/// Naps for so many microseconds.
+fn nap<R: Wait>(rt: &R, micros: u64)
+    requires { micros ≤ most_nap }
+{
+    Parker::new().park_timeout(rt, Duration::from_micros(micros));
+}
+
 /// Leaves the processor to other threads, for longer the longer nothing moved: what this one waits for is theirs to do,
 /// under the same locks. It naps, since yields of many that wait take the time of those that work.
 pub(crate) fn give_way<R: Wait>(rt: &R, idle: u64) {
     if FIRST_NAP <= idle {
-        Parker::new().park_timeout(rt, Duration::from_micros(NAP));
+        nap(rt, NAP);
         return;
     }
     for _ in 0..idle {
@@ -117,7 +127,7 @@ pub(crate) fn run_alone<R: Wait, B: Board, G: Gate>(
     requires { IsReady (B.fits board.now) worker.old }
     ensures ran { Ran (B.turns board.now) (B.thread_of board.now) worker.old worker.new }
     ensures kept { Stands (B.fits board.now) worker.new }
-    ensures patient { GivesUpAfter (B.turns board.now) PATIENCE worker.old worker.new }
+    ensures patient { GivesUpAfter (B.turns board.now) patience worker.old worker.new }
 {
     let mut idle = 0;
     for _ in rt.forever() {

@@ -2,6 +2,7 @@
 use Rattle.std.specs.Prelude.{◌≡◌, ℕ, ◌+◌, ◌*◌, ◌%◌, ◌==◌, ◌||◌, nat_le, nat_lt, List, [], ◌∷◌, map, Option, Some, Result, Ok, Err, if◌then◌else◌}
 use Rattle.std.specs.Result.{result_map_both}
 use Rattle.csv.specs.Reading.{default_config, records, strip_bom}
+use Rattle.tc_units.specs.Classes.{most_batch, most_object_bytes, most_rows, most_span_pages, size_step}
 use Rattle.tc_units.specs.Decimal.{number_of}
 use Rattle.tc_units.specs.Units.{page_bytes}
 use Rattle.tc_units.specs.declared.spans.ClassRow.{ClassRow}
@@ -17,11 +18,11 @@ most_number = 1000000
 -- the rules on the numbers of a record, after a row of a size
 abbrev pub check_numbers : ℕ → ℕ → ℕ → ℕ → Result ClassRow RowWhy
 check_numbers above size pages batch =
-    if nat_lt size 8 || nat_lt 262144 size || nat_lt 0 (size % 8) then Err why.Size
+    if nat_lt size size_step || nat_lt most_object_bytes size || nat_lt 0 (size % size_step) then Err why.Size
     else if nat_le size above then Err why.Rise
-    else if nat_lt pages 1 || nat_lt 255 pages then Err why.Pages
+    else if nat_lt pages 1 || nat_lt most_span_pages pages then Err why.Pages
     else if nat_lt (pages * page_bytes) size then Err why.Fit
-    else if nat_lt batch 1 || nat_lt 128 batch then Err why.Batch
+    else if nat_lt batch 1 || nat_lt most_batch batch then Err why.Batch
     else Ok (record { size = size; pages = pages; batch = batch })
 
 -- the rules on the fields of a record, each as the number that it has or none, after a row of a size
@@ -32,7 +33,7 @@ check_fields above fields = Err why.Fields
 
 -- the row of the record with this number, after a row of a size, or the first rule that it breaks
 abbrev pub check_record : ℕ → ℕ → List (List ℕ) → Result ClassRow RowWhy
-check_record number above fields = if nat_lt 120 number then Err why.Rows else check_fields above (map (number_of most_number) fields)
+check_record number above fields = if nat_lt most_rows number then Err why.Rows else check_fields above (map (number_of most_number) fields)
 
 -- the rows from a record on, where that record is read with this result: its row and then those after it, or what is wrong
 abbrev pub rows_after : ℕ → Result ClassRow RowWhy → (ℕ → Result (List ClassRow) TableFault) → Result (List ClassRow) TableFault

@@ -21,7 +21,7 @@ use Rattle.holdings.specs.Apart.{AreApart}
 use Rattle.holdings.proofs.CallFacts.{blocks_after-push, answer_cases, answer_to-push_new, answer_to-push_old}
 use Rattle.holdings.proofs.Standing.{answer_same}
 use Rattle.holdings.proofs.Blocks.{apart_after, place_of}
-use Rattle.tc_machine.specs.Arena.{most_huge}
+use Rattle.tc_machine.specs.Arena.{most_huge_of_nodes}
 use Rattle.tc_machine.specs.declared.standing.Standing.{Standing}
 use Rattle.tc_machine.specs.Standing.{bytes_of_label, bytes_of_labels, AreNoted, AreBytesOf, AreStanding, MayStand}
 use Rattle.tc_machine.specs.Telling.{HearsEach}
@@ -87,16 +87,16 @@ noted_first : (earlier : List CallLine) (line : CallLine) (addr : Addr) (len : �
 noted_first earlier line addr len label size n m is asks after noted = grind (arith, answer_cases, answer_to-push_new, answer_to-push_old, noted_still)
 
 -- an allocation's block lies in an arena of at most 2^37 bytes
-pub len_small : (huge : ℕ) (round : ℕ → ℕ) (earlier : List CallLine) (call : Call) (addr : Addr) (len : ℕ) → huge ≤ most_huge → IsAllowed huge round earlier call (Block addr len) → len ≤ 2 ^ 37
+pub len_small : (huge : ℕ) (round : ℕ → ℕ) (earlier : List CallLine) (call : Call) (addr : Addr) (len : ℕ) → huge ≤ most_huge_of_nodes → IsAllowed huge round earlier call (Block addr len) → len ≤ 2 ^ 37
 len_small huge round earlier call addr len arena allowed = let p = place_of huge round earlier call addr len allowed in omega (arith, arena, p.inside.to)
 
 -- each call of a run on disjoint blocks may come
-pub may_stand : (huge : ℕ) (round : ℕ → ℕ) (calls : List CallLine) → IsBlockRun huge round calls → huge ≤ most_huge → HearsEach MayStand calls
+pub may_stand : (huge : ℕ) (round : ℕ → ℕ) (calls : List CallLine) → IsBlockRun huge round calls → huge ≤ most_huge_of_nodes → HearsEach MayStand calls
 may_stand huge round calls run arena earlier line later is few =
     let taken : take (length earlier) calls ≡ earlier = ap (take (length earlier)) (sym is) ∙ take-append_seam earlier (line ∷ later) in
     grind (arith, length-append earlier (line ∷ later), apart_after huge round calls run (length earlier), run earlier line later is)
 
-module _ (s : Standing) (line : CallLine) (huge : ℕ) (round : ℕ → ℕ) (earlier : List CallLine) (stand : AreStanding earlier s) (apart : AreApart (blocks_after earlier)) (arena : huge ≤ most_huge) (allowed : IsAllowed huge round earlier line.call line.answer) where
+module _ (s : Standing) (line : CallLine) (huge : ℕ) (round : ℕ → ℕ) (earlier : List CallLine) (stand : AreStanding earlier s) (apart : AreApart (blocks_after earlier)) (arena : huge ≤ most_huge_of_nodes) (allowed : IsAllowed huge round earlier line.call line.answer) where
   after : blocks_after (earlier ++ line ∷ []) ≡ blocks_with (blocks_after earlier) line.answer
   after = blocks_after-push earlier line
 

@@ -6,7 +6,7 @@ use Rattle.tc_model.specs.declared.answers.Answer.TheVariants.{Block}
 use Rattle.tc_model.specs.declared.answers.CallLine.{CallLine}
 use Rattle.tc_model.specs.Blocks.{blocks_after, answer_to, live_count, live_bytes, IsAllowed}
 use Rattle.holdings.specs.Apart.{AreApart}
-use Rattle.tc_machine.specs.Arena.{most_huge}
+use Rattle.tc_machine.specs.Arena.{most_huge_of_nodes}
 use Rattle.tc_machine.specs.declared.standing.Standing.{Standing}
 use Rattle.tc_machine.specs.declared.standing.TheConstants.{NO_BLOCK}
 
@@ -48,7 +48,7 @@ pub record AreStanding (earlier : List CallLine) (s : Standing) : Type 0 where
 pub record MayStand (earlier : List CallLine) (line : CallLine) : Type 0 where
   pub huge : ℕ
   pub round : ℕ → ℕ
-  pub arena : huge ≤ most_huge
+  pub arena : huge ≤ most_huge_of_nodes
   pub few : length earlier < 2 ^ 26
   pub apart : AreApart (blocks_after earlier)
   pub allowed : IsAllowed huge round earlier line.call line.answer

@@ -2,14 +2,14 @@
 -- picks decided.
 use Rattle.std.specs.Prelude.{◌≡◌, ℕ, ◌≤◌, ◌<◌, ◌==◌, Bool, false, List, ◌∷◌, ◌++◌, length, drop, filter, Option, None, Some, option_map, slice_get}
 use Rattle.tc_model.specs.declared.answers.CallLine.{CallLine}
-use Rattle.tc_model.specs.declared.machine.TheConstants.{MOST_PICKS}
+use Rattle.tc_model.specs.Limits.{most_picks}
 use Rattle.tc_model.specs.Calls.{AreRising}
 use Rattle.call_steps.specs.Local.{Decided}
 use Rattle.tc_machine.specs.declared.telling.Mark.{Mark}
 
 -- each of some calls may be heard behind those before it; no run has more calls than picks
 abbrev pub HearsEach : (List CallLine → CallLine → Type 0) → List CallLine → Type 0
-HearsEach may_hear calls = (earlier : List CallLine) (c : CallLine) (later : List CallLine) → earlier ++ c ∷ later ≡ calls → length earlier < MOST_PICKS → may_hear earlier c
+HearsEach may_hear calls = (earlier : List CallLine) (c : CallLine) (later : List CallLine) → earlier ++ c ∷ later ≡ calls → length earlier < most_picks → may_hear earlier c
 
 -- the answers that a pick decided, by its number among the thread's picks
 abbrev pub decided_at : ℕ → List Decided → List Decided

@@ -7,7 +7,7 @@ ghost use Rattle.tc_model.specs.Blocks.{IsBlockRun};
 ghost use Rattle.tc_model.specs.Replays.{HaveEnded};
 ghost use Rattle.tc_model.specs.Serial.{completed, followed};
 ghost use Rattle.tc_machine.specs.Along.{IsStopped};
-ghost use Rattle.tc_machine.specs.Arena.{most_huge};
+ghost use Rattle.tc_machine.specs.Arena.{most_huge_of_nodes};
 ghost use Rattle.alloc_rules.specs.Machine.{turns};
 ghost use Rattle.alloc_rules.specs.Told.{TellsScripts};
 ghost use Rattle.tc_machine.specs.Finish.{totals_of};
@@ -113,7 +113,7 @@ impl<M: Decides> State<M> {
         // A live block's bytes are backed, and no more is backed than the arena has.
         ensures covered { IfOk result (λ r. r.1.live_bytes ≤ r.1.resident * page_bytes) }
         ensures most { IfOk result (λ r. r.1.resident ≤ huge_pages * M.arena self.new.options self.new.input) }
-        ensures arena { IfOk result (λ r. r.1.resident ≤ huge_pages * most_huge) }
+        ensures arena { IfOk result (λ r. r.1.resident ≤ huge_pages * most_huge_of_nodes) }
     {
         let both = Both {
             first: Standing::new(self.alloc),
@@ -162,7 +162,7 @@ impl<M: Decides> State<M> {
         // A live block's bytes are backed, and no more is backed than the arena has.
         ensures covered { IfOk result (λ r. r.1.live_bytes ≤ r.1.resident * page_bytes) }
         ensures most { IfOk result (λ r. r.1.resident ≤ huge_pages * M.arena self.now.options self.now.input) }
-        ensures arena { IfOk result (λ r. r.1.resident ≤ huge_pages * most_huge) }
+        ensures arena { IfOk result (λ r. r.1.resident ≤ huge_pages * most_huge_of_nodes) }
     {
         let Some(Both { first, second }) = heard else {
             return Err(AllocError);

@@ -8,7 +8,7 @@ ghost use Rattle.tc_model.specs.Replays.{HaveEnded};
 ghost use Rattle.tc_model.specs.Run.{run};
 ghost use Rattle.tc_model.specs.Sound.{IsOrder};
 ghost use Rattle.alloc_rules.specs.Told.{TellsScripts};
-ghost use Rattle.tc_machine.specs.Arena.{most_huge};
+ghost use Rattle.tc_machine.specs.Arena.{most_huge_of_nodes};
 ghost use Rattle.alloc_rules.specs.Decided.{IsToldNext};
 ghost use Rattle.tc_machine.specs.Finish.{totals_of};
 ghost use Rattle.tc_machine.specs.Standing.{AreStanding};
@@ -70,7 +70,7 @@ pub trait Decides: Allocator {
     ghost on_blocks: { (machine : Self) (order : List ℕ) → IsOrder (Self.rules machine) order → IsBlockRun (Self.arena (Self.options machine) (Self.input machine)) (length_of (Self.input machine).rows) (Self.told (Self.options machine) (Self.input machine) order).calls };
 
     // Its arena is no larger than that of all nodes together.
-    ghost low_arena: { (machine : Self) → Self.arena (Self.options machine) (Self.input machine) ≤ most_huge };
+    ghost low_arena: { (machine : Self) → Self.arena (Self.options machine) (Self.input machine) ≤ most_huge_of_nodes };
 
     // Where all scripts have ended, the whole script of each thread is told.
     ghost tells_scripts: { (machine : Self) (order : List ℕ) → IsOrder (Self.rules machine) order → HaveEnded (Self.rules machine) (run (Self.rules machine) order) → TellsScripts (Self.input machine).asked (Self.told (Self.options machine) (Self.input machine) order).calls };

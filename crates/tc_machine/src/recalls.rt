@@ -7,7 +7,7 @@ ghost use Rattle.tc_model.specs.Run.{world_of, start, run};
 ghost use Rattle.tc_model.specs.Steps.{moving};
 ghost use Rattle.tc_model.specs.Replays.{HaveEnded};
 ghost use Rattle.alloc_rules.specs.Told.{TellsScripts};
-ghost use Rattle.tc_machine.specs.Arena.{most_huge};
+ghost use Rattle.tc_machine.specs.Arena.{most_huge_of_nodes};
 ghost use Rattle.tc_machine.specs.Finish.{totals_of};
 ghost use Rattle.tc_machine.specs.Telling.{HearsEach};
 
@@ -48,7 +48,7 @@ pub trait Recalls: Allocator {
         // A live block's bytes are backed, and no more is backed than the arena has.
         ensures covered { IfOk result (λ r. r.1.live_bytes ≤ r.1.resident * page_bytes) }
         ensures most { IfOk result (λ r. r.1.resident ≤ huge_pages * Self.arena (Self.options self.now) (Self.input self.now)) }
-        ensures arena { IfOk result (λ r. r.1.resident ≤ huge_pages * most_huge) };
+        ensures arena { IfOk result (λ r. r.1.resident ≤ huge_pages * most_huge_of_nodes) };
 }
 
 impl<F: LawfulFront> Recalls for AllocMachine<F> {

@@ -12,7 +12,7 @@ ghost use Rattle.tc_model.specs.declared.steps.Stepped.TheVariants as step;
 ghost use Rattle.alloc_rules.specs.Inputs.{not_taken};
 ghost use Rattle.alloc_rules.specs.Machine.{turns};
 ghost use Rattle.alloc_rules.specs.Told.{TellsScripts};
-ghost use Rattle.tc_machine.specs.Arena.{most_huge};
+ghost use Rattle.tc_machine.specs.Arena.{most_huge_of_nodes};
 ghost use Rattle.tc_machine.specs.Finish.{totals_of};
 ghost use Rattle.tc_machine.specs.Inputs.{IsRead, asked_of, input_of};
 ghost use Rattle.tc_machine.specs.Played.{told_at, world};
@@ -233,7 +233,7 @@ impl<M: Recalls> State<M> {
         // A live block's bytes are backed, and no more is backed than the arena has.
         ensures covered { IfOk result (λ r. r.1.live_bytes ≤ r.1.resident * page_bytes) }
         ensures most { IfOk result (λ r. r.1.resident ≤ huge_pages * M.arena self.now.options self.now.input) }
-        ensures arena { IfOk result (λ r. r.1.resident ≤ huge_pages * most_huge) }
+        ensures arena { IfOk result (λ r. r.1.resident ≤ huge_pages * most_huge_of_nodes) }
     {
         let replay = &self.replay;
         replay.machine.tell(
@@ -255,7 +255,7 @@ impl<M: Recalls> State<M> {
         // A live block's bytes are backed, and no more is backed than the arena has.
         ensures covered { IfOk result (λ f. f.live_bytes ≤ f.resident * page_bytes) }
         ensures most { IfOk result (λ f. f.resident ≤ huge_pages * M.arena self.now.options self.now.input) }
-        ensures arena { IfOk result (λ f. f.resident ≤ huge_pages * most_huge) }
+        ensures arena { IfOk result (λ f. f.resident ≤ huge_pages * most_huge_of_nodes) }
     {
         let (noted, totals) = self.tell(Noted::new(self.alloc))?;
         Ok(Finished {

@@ -1,11 +1,11 @@
 //! The calls of a run, in the order in which they were decided.
 ghost use Rattle.std.specs.Prelude.{◌≡◌, ℕ, ◌+◌, ◌-◌, ◌^◌, ◌<◌, ◌≤◌, List, [], length, map, option_map, All, IfOk, Some, slice_get};
 ghost use Rattle.std.specs.Option.{option_to_list};
-ghost use Rattle.tc_model.specs.declared.machine.TheConstants.{MOST_PICKS};
+ghost use Rattle.tc_model.specs.Limits.{most_picks};
 ghost use Rattle.tc_model.specs.Blocks.{IsBlockRun};
 ghost use Rattle.tc_model.specs.Calls.{AreRising, calls_of};
 ghost use Rattle.call_steps.specs.Local.{Decided, told};
-ghost use Rattle.tc_machine.specs.Arena.{most_huge};
+ghost use Rattle.tc_machine.specs.Arena.{most_huge_of_nodes};
 ghost use Rattle.tc_machine.specs.Standing.{AreStanding};
 ghost use Rattle.tc_machine.specs.Telling.{decided_at, first_mark, decides_next, HearsEach, IsMark};
 
@@ -117,7 +117,7 @@ fn tell_calls<T: Teller, L: Listener>(
 ) -> Result<L, AllocError>
     requires numbers { length tellers.now ≤ 2 ^ 8 }
     requires threads { All (λ t. t < length tellers.now) order.now }
-    requires few { length order.now ≤ MOST_PICKS }
+    requires few { length order.now ≤ most_picks }
     requires rising { (t : ℕ) (l : T) → slice_get tellers.now t ≡ Some l → AreRising (λ (d : Decided). d.act) 0 (T.answers l) }
     requires first { L.heard listener listener [] }
     requires may { HearsEach (L.may_hear listener) (calls_of T.answers (λ (d : Decided). d.act) told tellers.now order.now) }
@@ -144,9 +144,9 @@ pub fn tell_all<T: Teller, L: Listener>(
 ) -> Result<(L, Standing), AllocError>
     requires numbers { length tellers.now ≤ 2 ^ 8 }
     requires threads { All (λ t. t < length tellers.now) order.now }
-    requires few { length order.now ≤ MOST_PICKS }
+    requires few { length order.now ≤ most_picks }
     requires rising { (t : ℕ) (l : T) → slice_get tellers.now t ≡ Some l → AreRising (λ (d : Decided). d.act) 0 (T.answers l) }
-    requires blocks { (huge : ℕ) × (round : ℕ → ℕ) × IsBlockRun huge round (calls_of T.answers (λ (d : Decided). d.act) told tellers.now order.now) × (huge ≤ most_huge) }
+    requires blocks { (huge : ℕ) × (round : ℕ → ℕ) × IsBlockRun huge round (calls_of T.answers (λ (d : Decided). d.act) told tellers.now order.now) × (huge ≤ most_huge_of_nodes) }
     requires first { L.heard listener listener [] }
     requires may { HearsEach (L.may_hear listener) (calls_of T.answers (λ (d : Decided). d.act) told tellers.now order.now) }
     ensures heard { IfOk result (λ r. L.heard listener r.0 (calls_of T.answers (λ (d : Decided). d.act) told tellers.now order.now)) }

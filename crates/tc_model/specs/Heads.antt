@@ -1,9 +1,9 @@
 -- The heads of a trace, in one table: each sets one limit of a run.
 use Rattle.std.specs.Prelude.{ℕ, ◌≤◌, List, [], ◌∷◌, find, Option, codes}
 use Rattle.std.specs.Str.{bytes_eq}
-use Rattle.tc_units.specs.declared.units.TheConstants.{MOST_HUGE}
-use Rattle.tc_model.specs.declared.machine.TheConstants.{MOST_PICKS}
-use Rattle.tc_model.specs.declared.config.TheConstants.{MOST_CPUS, MOST_THREADS}
+use Rattle.tc_units.specs.Units.{most_huge}
+use Rattle.tc_model.specs.Limits.{most_picks}
+use Rattle.tc_model.specs.Limits.{most_cpus, most_threads}
 use Rattle.tc_model.specs.declared.config.Config.{Config}
 use Rattle.tc_model.specs.declared.config.Head.{Head}
 use Rattle.tc_model.specs.declared.config.Head.TheVariants.{Cpus, Threads, Huge, Cache, Region, Slack, Transfer, Slab, Percpu, Events, Window, Domains}
@@ -20,18 +20,18 @@ pub record HeadRule : Type 0 where
   pub default : ℕ
 
 abbrev pub head_rule : Head → HeadRule
-head_rule Cpus = record { name = codes "cpus"; least = 1; most = MOST_CPUS; default = 1 }
-head_rule Threads = record { name = codes "threads"; least = 1; most = MOST_THREADS; default = 1 }
-head_rule Huge = record { name = codes "huge"; least = 1; most = MOST_HUGE; default = 64 }
-head_rule Cache = record { name = codes "cache"; least = 0; most = MOST_HUGE; default = 8 }
+head_rule Cpus = record { name = codes "cpus"; least = 1; most = most_cpus; default = 1 }
+head_rule Threads = record { name = codes "threads"; least = 1; most = most_threads; default = 1 }
+head_rule Huge = record { name = codes "huge"; least = 1; most = most_huge; default = 64 }
+head_rule Cache = record { name = codes "cache"; least = 0; most = most_huge; default = 8 }
 head_rule Region = record { name = codes "region"; least = 2; most = 512; default = 512 }
 head_rule Slack = record { name = codes "slack"; least = 0; most = 1048576; default = 8192 }
 head_rule Transfer = record { name = codes "transfer"; least = 0; most = 4096; default = 64 }
 head_rule Slab = record { name = codes "slab"; least = 1; most = 2048; default = 2048 }
 head_rule Percpu = record { name = codes "percpu"; least = 0; most = 268435456; default = 1572864 }
-head_rule Events = record { name = codes "events"; least = 1; most = MOST_PICKS; default = MOST_PICKS }
+head_rule Events = record { name = codes "events"; least = 1; most = most_picks; default = most_picks }
 head_rule Window = record { name = codes "window"; least = 0; most = 65536; default = 0 }
-head_rule Domains = record { name = codes "domains"; least = 0; most = MOST_CPUS; default = 0 }
+head_rule Domains = record { name = codes "domains"; least = 0; most = most_cpus; default = 0 }
 
 -- the head of a name
 abbrev pub head_of : List ℕ → Option Head

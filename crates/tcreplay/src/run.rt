@@ -10,7 +10,7 @@ ghost use Rattle.trace_reader.specs.Valid.{IsAsked};
 ghost use Rattle.alloc_rules.specs.Inputs.{not_taken};
 ghost use Rattle.alloc_rules.specs.Told.{TellsScripts};
 ghost use Rattle.tc_machine.specs.Along.{IsStopped};
-ghost use Rattle.tc_machine.specs.Arena.{most_huge};
+ghost use Rattle.tc_machine.specs.Arena.{most_huge_of_nodes};
 ghost use Rattle.tc_machine.specs.Inputs.{asked_of};
 ghost use Rattle.tc_machine.specs.Played.{told_at, world};
 ghost use Rattle.usage_report.specs.Report.{IsTellable};
@@ -91,7 +91,7 @@ fn rows_if(told: bool, totals: &Totals) -> &[RowView]
 /// Appends the summary of a run, and on demand a line for each hugepage.
 fn push_totals(text: &mut Vec<u8>, totals: &Totals, rows: bool) -> Result<(), AllocError>
     requires covered { totals.now.live_bytes ≤ totals.now.resident * page_bytes }
-    requires arena { totals.now.resident ≤ huge_pages * most_huge }
+    requires arena { totals.now.resident ≤ huge_pages * most_huge_of_nodes }
     ensures { OnOk result (text.new.items ≡ text.old.items ++ totals_text rows totals.now) }
 {
     push_summary(text, &summary_of(totals))?;

@@ -77,6 +77,10 @@ impl Hold {
 }
 
 impl Gate for Hold {
+    ghost use Rattle.std.specs.Prelude.{⊤};
+
+    ghost has_let = { λ gate thread turn done. ⊤ };
+
     fn pass(&self, thread: ThreadNo, turn: u64, done: u64) {
         if turn == 0 {
             self.standing.fetch_add(1, Ordering::SeqCst);

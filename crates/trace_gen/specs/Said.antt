@@ -1,7 +1,7 @@
 -- What the lines of a trace say that is being made.
 use Rattle.std.specs.Prelude.{ℕ, ◌≡◌, ◌+◌, ◌≤◌, true, false, List, [], ◌∷◌, fold}
 use Rattle.trace_reader.specs.declared.form.Form.{Form}
-use Rattle.trace_reader.specs.declared.limits.TheConstants.{MOST_LINES}
+use Rattle.trace_reader.specs.Limits.{most_lines}
 use Rattle.trace_reader.specs.Form.{is_head_form, IsInRange}
 use Rattle.trace_reader.specs.Reading.{SoFar, nothing, with_form}
 use Rattle.trace_reader.specs.Steps.{so_far, Fits}
@@ -28,7 +28,7 @@ with_lines said lines = fold with_line said lines
 
 -- a line that no rule refuses behind these, however many size classes there are
 pub record IsGood (said : Said) (form : Form) : Type 0 where
-  pub few : said.number ≤ MOST_LINES
+  pub few : said.number ≤ most_lines
   pub early : is_head_form form ≡ true → said.sofar.late ≡ false
   pub range : IsInRange form
   pub fits : (classes : ℕ) → Fits classes said.sofar.asked form

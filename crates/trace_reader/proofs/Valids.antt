@@ -10,7 +10,7 @@ use Rattle.tc_model.specs.declared.calls.MoveTo.{MoveTo}
 use Rattle.tc_model.specs.declared.config.Config.{Config}
 use Rattle.tc_model.specs.Heads.{head_limit, with_limit, default_config, IsValueOf}
 use Rattle.tc_model.specs.Input.{ThreadCall}
-use Rattle.tc_model.specs.declared.config.TheConstants.{MOST_THREADS}
+use Rattle.tc_model.specs.Limits.{most_threads}
 use Rattle.tc_model.specs.declared.config.Head as heads
 use Rattle.tc_model.specs.declared.config.Head.TheVariants as head
 use Rattle.trace_reader.specs.declared.form.Form.{Form}
@@ -63,7 +63,7 @@ IsSoFar-form classes number (Head head value) before known range fits first =
     record {
       config = λ h. limit-with head h value before.asked.config range (known.config h);
       calls = AreCalls-none classes config before.asked.calls none.0;
-      moves = subst P (sym none.1) (λ t. subst Q (sym (none_pending None MOST_THREADS t)) tt);
+      moves = subst P (sym none.1) (λ t. subst Q (sym (none_pending None most_threads t)) tt);
       early = known.early;
     }
 IsSoFar-form classes number (Malloc thread label size) before known range fits first =
@@ -85,6 +85,6 @@ IsSoFar-nothing classes =
     record {
       config = IsConfig-default;
       calls = AreCalls-none classes default_config [] refl;
-      moves = λ t. subst Q (sym (none_pending None MOST_THREADS t)) tt;
+      moves = λ t. subst Q (sym (none_pending None most_threads t)) tt;
       early = λ h. (refl, refl);
     }

@@ -5,7 +5,7 @@ use Rattle.tc_units.specs.Decimal.{number_of}
 use Rattle.tc_model.specs.Heads.{IsValueOf}
 use Rattle.trace_reader.specs.declared.why.LineWhy.{LineWhy}
 use Rattle.trace_reader.specs.declared.why.LineWhy.TheVariants as why
-use Rattle.trace_reader.specs.declared.limits.TheConstants.{MOST_LABELS, MOST_SIZE, MOST_BEFORE, MOST_RELEASED, MOST_CAPACITY}
+use Rattle.trace_reader.specs.Limits.{most_labels, most_size, most_before, most_released, most_capacity}
 use Rattle.trace_reader.specs.declared.word.Word.{Word}
 use Rattle.trace_reader.specs.declared.word.Word.TheVariants as word
 use Rattle.trace_reader.specs.declared.form.Form.{Form}
@@ -47,12 +47,12 @@ read_fields word fields = if has_fields word fields then ok_or (form_of word fie
 -- the numbers of a form are in their ranges
 abbrev pub IsInRange : Form → Type 0
 IsInRange (Head head value) = IsValueOf head value
-IsInRange (Malloc thread label size) = (label < MOST_LABELS) × (size ≤ MOST_SIZE)
-IsInRange (Free thread label) = label < MOST_LABELS
-IsInRange (Move thread before cpu) = (0 < before) × (before ≤ MOST_BEFORE)
-IsInRange (Release thread pages) = pages ≤ MOST_RELEASED
+IsInRange (Malloc thread label size) = (label < most_labels) × (size ≤ most_size)
+IsInRange (Free thread label) = label < most_labels
+IsInRange (Move thread before cpu) = (0 < before) × (before ≤ most_before)
+IsInRange (Release thread pages) = pages ≤ most_released
 IsInRange (Drain thread cpu) = Unit {0}
-IsInRange (Resize thread cpu class cap) = cap ≤ MOST_CAPACITY
+IsInRange (Resize thread cpu class cap) = cap ≤ most_capacity
 
 -- whether a form is a head's
 abbrev pub is_head_form : Form → Bool

@@ -2,8 +2,8 @@
 use Rattle.std.specs.Prelude.{ℕ, ◌≡◌, ◌+◌, Bool, true, false, not, nat_le, nat_lt, List, [], ◌∷◌, ◌++◌, length, replicate, is_none, Option, None, Result, Ok, Err, if◌then◌else◌, option_map, option_and_then}
 use Rattle.std.specs.Option.{option_map_or, ok_or}
 use Rattle.trace_text.specs.Lines.{lines_of}
-use Rattle.tc_model.specs.declared.machine.TheConstants.{MOST_PICKS}
-use Rattle.trace_reader.specs.declared.limits.TheConstants.{MOST_LINES, MOST_TURNS}
+use Rattle.tc_model.specs.Limits.{most_picks}
+use Rattle.trace_reader.specs.Limits.{most_lines, most_turns}
 use Rattle.trace_reader.specs.declared.why.OrderWhy.{OrderWhy}
 use Rattle.trace_reader.specs.declared.why.OrderWhy.TheVariants as why
 use Rattle.trace_reader.specs.declared.why.OrderFault.{OrderFault}
@@ -17,7 +17,7 @@ use Rattle.trace_reader.specs.Reading.{Rule, verdict, is_some_and, BadLine, and_
 abbrev pub line_turns : List (List ℕ) → Option Turns
 line_turns (thread ∷ []) = option_map (λ t. record { thread = t; picks = 1 }) (number_in place thread)
 line_turns (thread ∷ picks ∷ []) =
-    option_and_then (λ t. option_map (λ n. record { thread = t; picks = n }) (number_in (from_to 1 MOST_TURNS) picks)) (number_in place thread)
+    option_and_then (λ t. option_map (λ n. record { thread = t; picks = n }) (number_in (from_to 1 most_turns) picks)) (number_in place thread)
 line_turns fields = None
 
 -- whether a line has one field or two
@@ -40,11 +40,11 @@ pub record OrderLine : Type 0 where
 -- the rules, in the order in which they are tested
 abbrev pub order_rules : List (Rule OrderLine OrderWhy)
 order_rules =
-    record { why = why.Lines; fails = λ line. nat_lt MOST_LINES line.number }
+    record { why = why.Lines; fails = λ line. nat_lt most_lines line.number }
     ∷ record { why = why.Fields; fails = λ line. not (has_turn_fields line.fields) }
     ∷ record { why = why.Number; fails = λ line. is_none (line_turns line.fields) }
     ∷ record { why = why.Thread; fails = λ line. is_some_and (λ turns. nat_le line.threads turns.thread) (line_turns line.fields) }
-    ∷ record { why = why.Picks; fails = λ line. is_some_and (λ turns. nat_lt MOST_PICKS (length line.before + turns.picks)) (line_turns line.fields) }
+    ∷ record { why = why.Picks; fails = λ line. is_some_and (λ turns. nat_lt most_picks (length line.before + turns.picks)) (line_turns line.fields) }
     ∷ []
 
 -- the picks with those of a line

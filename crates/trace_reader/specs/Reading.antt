@@ -5,11 +5,11 @@ use Rattle.std.specs.Option.{option_map_or}
 use Rattle.tc_model.specs.declared.calls.Call.{Call}
 use Rattle.tc_model.specs.declared.calls.Call.TheVariants as call
 use Rattle.tc_model.specs.declared.calls.MoveTo.{MoveTo}
-use Rattle.tc_model.specs.declared.config.TheConstants.{MOST_THREADS}
+use Rattle.tc_model.specs.Limits.{most_threads}
 use Rattle.tc_model.specs.Heads.{with_limit, default_config}
 use Rattle.tc_model.specs.Input.{ThreadCall, Asked}
 use Rattle.trace_text.specs.Lines.{lines_of}
-use Rattle.trace_reader.specs.declared.limits.TheConstants.{MOST_LINES, MOST_CLASSES}
+use Rattle.trace_reader.specs.Limits.{most_lines, most_classes}
 use Rattle.trace_reader.specs.declared.why.LineWhy.{LineWhy}
 use Rattle.trace_reader.specs.declared.why.LineWhy.TheVariants as why
 use Rattle.trace_reader.specs.declared.word.Word.{Word}
@@ -27,7 +27,7 @@ pub record SoFar : Type 0 where
 
 -- before the first line
 abbrev pub nothing : SoFar
-nothing = record { asked = record { config = default_config; calls = [] }; late = false; moves = replicate MOST_THREADS None }
+nothing = record { asked = record { config = default_config; calls = [] }; late = false; moves = replicate most_threads None }
 
 -- a line: how many size classes there are, what the lines before it say, its number, and its fields
 pub record Line : Type 0 where
@@ -77,7 +77,7 @@ abbrev pub lacks_cpu : Asked → Form → Bool
 lacks_cpu asked form = is_some_and (nat_le asked.config.cpus) (cpu_of form)
 
 abbrev pub lacks_class : ℕ → Form → Bool
-lacks_class classes form = is_some_and (nat_le (min classes MOST_CLASSES)) (class_of form)
+lacks_class classes form = is_some_and (nat_le (min classes most_classes)) (class_of form)
 
 -- whether a form allocates under a label that an earlier allocation has, frees a label that no earlier allocation has,
 -- and frees a label that an earlier free has
@@ -101,7 +101,7 @@ pub record Rule (L Why : Type 0) : Type 0 where
 -- the rules, in the order in which they are tested
 abbrev pub rules : List (Rule Line LineWhy)
 rules =
-    record { why = why.Lines; fails = λ line. nat_lt MOST_LINES line.number }
+    record { why = why.Lines; fails = λ line. nat_lt most_lines line.number }
     ∷ record { why = why.Word; fails = λ line. is_none (first_word line.fields) }
     ∷ record { why = why.HeadLate; fails = λ line. line.before.late && is_some_and is_head (first_word line.fields) }
     ∷ record { why = why.Fields; fails = λ line. is_some_and (λ word. not (has_fields word (drop 1 line.fields))) (first_word line.fields) }

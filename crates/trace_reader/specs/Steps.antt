@@ -1,8 +1,8 @@
 -- The steps of the code that reads a trace, and what it keeps.
 use Rattle.std.specs.Prelude.{ℕ, [], min, replicate, IfSome, ◌≡◌, ◌<◌, ◌≤◌, ◌&&◌, true, false, List, length, Option, Some, None, Err, if◌then◌else◌}
-use Rattle.tc_model.specs.declared.config.TheConstants.{MOST_CPUS, MOST_THREADS}
+use Rattle.tc_model.specs.Limits.{most_cpus, most_threads}
 use Rattle.tc_model.specs.Input.{ThreadCall, Asked}
-use Rattle.trace_reader.specs.declared.limits.TheConstants.{MOST_LINES, MOST_CLASSES}
+use Rattle.trace_reader.specs.Limits.{most_lines, most_classes}
 use Rattle.trace_reader.specs.declared.reader.Reader.{Reader}
 use Rattle.trace_text.specs.Places.{LineLeft}
 use Rattle.trace_reader.specs.declared.word.Word.{Word}
@@ -38,9 +38,9 @@ so_far reader = record { asked = record { config = reader.config; calls = calls_
 
 -- there are few threads and CPUs, there is room for each thread, and the index is right
 pub record IsReading (reader : Reader) : Type 0 where
-  pub threads : reader.config.threads ≤ MOST_THREADS
-  pub cpus : reader.config.cpus ≤ MOST_CPUS
-  pub scripts : length reader.calls.scripts.items ≡ MOST_THREADS
+  pub threads : reader.config.threads ≤ most_threads
+  pub cpus : reader.config.cpus ≤ most_cpus
+  pub scripts : length reader.calls.scripts.items ≡ most_threads
   pub kept : IsKept reader.calls
 
 -- a line behind what a reader has read so far
@@ -49,7 +49,7 @@ line_at classes reader line = record { classes = classes; before = so_far reader
 
 -- what is known of a line that passes the rules on its number and its word
 pub record HasWord (line : Line) (w : Word) : Type 0 where
-  pub few : line.number ≤ MOST_LINES
+  pub few : line.number ≤ most_lines
   pub word : first_word line.fields ≡ Some w
   pub early : (line.before.late && is_head w) ≡ false
 
@@ -61,14 +61,14 @@ Fits classes asked (Free thread label) = (thread < asked.config.threads) × (is_
 Fits classes asked (Move thread before cpu) = (thread < asked.config.threads) × (cpu < asked.config.cpus)
 Fits classes asked (Release thread pages) = thread < asked.config.threads
 Fits classes asked (Drain thread cpu) = (thread < asked.config.threads) × (cpu < asked.config.cpus)
-Fits classes asked (Resize thread cpu class cap) = (thread < asked.config.threads) × (cpu < asked.config.cpus) × (class < min classes MOST_CLASSES)
+Fits classes asked (Resize thread cpu class cap) = (thread < asked.config.threads) × (cpu < asked.config.cpus) × (class < min classes most_classes)
 
 -- what was read so far is valid, each pending move too, and no call and no move stands before a head
 pub record IsSoFar (classes : ℕ) (sofar : SoFar) : Type 0 where
   pub config : IsConfig sofar.asked.config
   pub calls : AreCalls classes sofar.asked.config sofar.asked.calls
   pub moves : (thread : ℕ) → IfSome (slice_index_or sofar.moves thread None) (IsMove sofar.asked.config)
-  pub early : sofar.late ≡ false → (sofar.asked.calls ≡ []) × (sofar.moves ≡ replicate MOST_THREADS None)
+  pub early : sofar.late ≡ false → (sofar.asked.calls ≡ []) × (sofar.moves ≡ replicate most_threads None)
 
 -- a fault is want of memory, or what the definition says of the line
 abbrev pub IsLineFault : Line → TraceFault → Type 0

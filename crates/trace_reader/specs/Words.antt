@@ -3,7 +3,7 @@ use Rattle.std.specs.Prelude.{ℕ, ◌-◌, Bool, false, true, List, [], ◌∷�
 use Rattle.std.specs.Option.{option_or}
 use Rattle.std.specs.Str.{bytes_eq}
 use Rattle.tc_model.specs.Heads.{head_rule, head_of}
-use Rattle.trace_reader.specs.declared.limits.TheConstants.{MOST_PLACE, MOST_LABELS, MOST_SIZE, MOST_BEFORE, MOST_RELEASED, MOST_CAPACITY}
+use Rattle.trace_reader.specs.Limits.{most_place, most_labels, most_size, most_before, most_released, most_capacity}
 use Rattle.trace_reader.specs.declared.word.Word.{Word}
 use Rattle.trace_reader.specs.declared.word.Word.TheVariants as word
 
@@ -36,14 +36,14 @@ from_to least most = record { least = least; most = most }
 
 -- a thread, a CPU or a class: whether there is such a one is a later rule
 abbrev pub place : Range
-place = from_to 0 MOST_PLACE
+place = from_to 0 most_place
 
 -- the ranges of the values that stand behind a word: a T L N, f T L, p T I C, r T N, d T C and z T C K N
 abbrev pub ranges_of : Word → List Range
 ranges_of (word.Head head) = from_to (head_rule head).least (head_rule head).most ∷ []
-ranges_of word.Malloc = place ∷ from_to 0 (MOST_LABELS - 1) ∷ from_to 0 MOST_SIZE ∷ []
-ranges_of word.Free = place ∷ from_to 0 (MOST_LABELS - 1) ∷ []
-ranges_of word.Move = place ∷ from_to 1 MOST_BEFORE ∷ place ∷ []
-ranges_of word.Release = place ∷ from_to 0 MOST_RELEASED ∷ []
+ranges_of word.Malloc = place ∷ from_to 0 (most_labels - 1) ∷ from_to 0 most_size ∷ []
+ranges_of word.Free = place ∷ from_to 0 (most_labels - 1) ∷ []
+ranges_of word.Move = place ∷ from_to 1 most_before ∷ place ∷ []
+ranges_of word.Release = place ∷ from_to 0 most_released ∷ []
 ranges_of word.Drain = place ∷ place ∷ []
-ranges_of word.Resize = place ∷ place ∷ place ∷ from_to 0 MOST_CAPACITY ∷ []
+ranges_of word.Resize = place ∷ place ∷ place ∷ from_to 0 most_capacity ∷ []

@@ -1,5 +1,5 @@
 use Rattle.std.proofs.Common.{◌≡◌, ◌+◌, ◌≤◌, length}
-use Rattle.trace_reader.specs.declared.limits.TheConstants.{MOST_LINES}
+use Rattle.trace_reader.specs.Limits.{most_lines}
 use Rattle.trace_reader.specs.Orders.{read_order_lines, picks_by}
 use Rattle.trace_reader.proofs.order.read_order.Given as goal
 
@@ -7,7 +7,7 @@ use Rattle.trace_reader.proofs.order.read_order.Given as goal
 abbrev pub invariant-loop-line : goal.invariant-loop-line
 invariant-loop-line l = record {
   read : read_order_lines l.threads l.picked.picks.items (l.lines.given + 1) l.lines.lines ≡ picks_by l.threads l.bytes;
-  given : l.lines.given ≤ MOST_LINES;
+  given : l.lines.given ≤ most_lines;
 }
 
 abbrev pub decreases-loop-line : goal.decreases-loop-line

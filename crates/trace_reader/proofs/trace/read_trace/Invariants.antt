@@ -1,5 +1,5 @@
 use Rattle.std.proofs.Common.{◌≡◌, ◌+◌, ◌≤◌, length}
-use Rattle.trace_reader.specs.declared.limits.TheConstants.{MOST_LINES}
+use Rattle.trace_reader.specs.Limits.{most_lines}
 use Rattle.trace_reader.specs.Reading.{read_lines, asked_by}
 use Rattle.trace_reader.specs.Steps.{so_far, IsReading, IsSoFar}
 use Rattle.trace_reader.proofs.trace.read_trace.Given as goal
@@ -11,7 +11,7 @@ invariant-loop-line l = record {
   reading : IsReading l.reader;
   valid : IsSoFar l.classes (so_far l.reader);
   calls : length (so_far l.reader).asked.calls ≤ l.lines.given;
-  few : l.lines.given ≤ MOST_LINES;
+  few : l.lines.given ≤ most_lines;
 }
 
 abbrev pub decreases-loop-line : goal.decreases-loop-line
