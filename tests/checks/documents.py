@@ -6,11 +6,12 @@ import re
 import subprocess
 
 from checks.program import PROGRAM, SECONDS, TOP
+from shared import meanings
 
 DOCUMENTS = ['README.md', 'examples/README.md', 'tools/look/README.md', 'tools/record/README.md'] + ['docs/%s.md' % name for name in (
     'ARCHITECTURE', 'CHANGING', 'DECISIONS', 'FORMATS', 'MODEL', 'PROOFS', 'PROVED', 'ROADMAP', 'WORDS')]
 FOLDERS = ('bench', 'docs', 'examples', 'tests', 'tools')
-LINES = {'README.md': 180, 'docs/MODEL.md': 150}
+LINES = {'README.md': 170, 'docs/MODEL.md': 150}
 TABLE = '| Claim | Clause | Guarded by |'
 FIELDS = '| What holds behind every number of picks | Field | Guarded by |'       # of the law over any front-end, too
 NAMED = re.compile(r'\b(?:fn|struct|enum|trait|type|const|ensures|requires|data|record|pub|abbrev)\b(?=\s+(\w+))')
@@ -181,7 +182,7 @@ def readme_as_it_runs():
     program for each command of its table but those that threads make."""
     text = text_of('README.md')
     wrong = []
-    for command in re.findall(r'(?m)^    ((?:tests/model|\./tcreplay) .*)$', text):
+    for command in re.findall(r'(?m)^    (\./(?:model|tcreplay) .*)$', text):
         status, out, told = shell(command, '.')
         if (status, told) != (0, '') or '\n    '.join([''] + out.splitlines()) + '\n\n' not in text:
             wrong.append('%s: status %d, %r' % (command, status, out + told))
@@ -189,21 +190,27 @@ def readme_as_it_runs():
         answer = shell(command, 'examples')
         if answer[0] != (12 if ' audit ' in command else 0):
             wrong.append('%s: status %d, %r' % (command, *answer[::2]))
-        if ' workers ' not in command and shell(command.replace('../tcreplay', '../tests/model'), 'examples') != answer:
+        if ' workers ' not in command and shell(command.replace('../tcreplay', '../model'), 'examples') != answer:
             wrong.append('%s: the model answers otherwise' % command)
     return wrong
 
 
 def definitions_to_read():
-    """tools/definitions lists what a contract and a line of the law rest on: of the program's contract the run on disjoint
-    blocks and the law, of an object's one place the books alone."""
+    """tools/definitions lists what a contract, a method, a command and a line of the law rest on: of the program's contract the
+    run on disjoint blocks and the law, of an object's one place the books, parts and locals, and of each command its own machine."""
     def told(*words):
         return subprocess.run([os.path.join(TOP, 'tools', 'definitions'), *words], stdout=subprocess.PIPE, text=True).stdout
 
     wrong = []
     for words, some, others in (
-            (('tcreplay/replay.rt', 'replay_alone'), {'IsBlockRun', 'HoldsAfter'}, {'acts_keep'}),
-            (('alloc_rules/Law', 'HoldsAfter.object_is_once'), {'stock_of', 'loose'}, {'HoldsAfter', 'IsBlockRun'}),
+            (('tcreplay/replay.rt', 'replay_alone'), {'IsBlockRun', 'HoldsAfter', 'strip_bom'}, {'acts_keep'}),
+            (('alloc_rules/Law', 'HoldsAfter.object_is_once'), {'stock_of', 'loose', 'parts_of', 'FrontRules'}, {'IsBlockRun'}),
+            (('page_heap/heap.rt', 'new_run'), {'none_fits'}, {'IsBlockRun'}),
+            (('tcreplay', 'serial'), {'per_cpu', 'HasTried'}, {'per_thread', 'per_node', 'HasGenerated', 'HasAudited'}),
+            (('tcreplay', 'perthread'), {'per_thread', 'HasTried'}, {'per_cpu', 'per_node', 'HasGenerated', 'HasAudited'}),
+            (('tcreplay', 'numa'), {'per_node', 'HasTried'}, {'per_cpu', 'per_thread', 'HasGenerated', 'HasAudited'}),
+            (('tcreplay', 'gen'), {'per_cpu', 'HasGenerated'}, {'per_thread', 'per_node', 'HasTried', 'HasAudited'}),
+            (('tcreplay', 'audit'), {'HasAudited'}, {'per_cpu', 'per_thread', 'per_node', 'HasTried', 'HasGenerated'}),
             (('tc_units/Units', 'page_bytes'), {'page_bytes', '1 definitions in 1 files'}, {'Lib'})):
         text = told(*words)
         wrong += ['%s: %s is missing' % (words, name) for name in some if not re.search(r'\b%s\b' % name, text)]
@@ -211,4 +218,34 @@ def definitions_to_read():
     return wrong
 
 
-CASES = [names_that_the_documents_name, what_measured_programs_import, readme_as_it_runs, definitions_to_read]
+def definitions_of_every_function():
+    """tools/definitions answers for each public function and method of four crates."""
+    wrong, count = [], 0
+    for crate in ('tcreplay', 'tc_machine', 'page_heap', 'name_table'):
+        for file in sorted(os.listdir(os.path.join(TOP, 'crates', crate, 'src'))):
+            for name in sorted(set(re.findall(r'\bpub fn (\w+)', meanings.text_of(crate, 'src', file)))):
+                owners = {owner for owner, _ in meanings.contracts(meanings.text_of(crate, 'src', file), name)}
+                for owner in owners:
+                    meanings.reached(meanings.contract_of(crate, file, '%s::%s' % (owner, name) if owner else name))
+                    count += 1
+                wrong += [] if owners else ['%s/%s %s has no contract' % (crate, file, name)]
+    return wrong or ([] if count > 60 else ['only %d functions' % count])
+
+
+def headline_sentence_by_sentence():
+    """docs/MODEL.md has each sentence of README's headline, with clauses that are there and as many definitions as it says."""
+    quoted = ' '.join(line[2:] for line in text_of('README.md').split('\n') if line.startswith('> '))
+    said = re.split(r'(?<=\.) (?=[A-Z])', quoted)
+    part = text_of('docs', 'MODEL.md').partition('\n## Sentence by sentence\n')[2].partition('\n## ')[0]
+    rows = re.findall(r'^\| (.+) \| (`.+`) \| (\d+) \|$', part, re.M)
+    wrong = ['README\'s headline has %d sentences, and docs/MODEL.md %d' % (len(said), len(rows))] if len(said) != len(rows) else []
+    wrong += ['docs/MODEL.md has %r for %r' % (row[0], one) for one, row in zip(said, rows) if not one.startswith(row[0])]
+    for number, row in enumerate(rows, 1):
+        answer = shell('tools/definitions headline %d' % number, '.')
+        if not answer[1].split('\n')[-2].startswith('%s definitions in' % row[2]):
+            wrong.append('sentence %d: docs/MODEL.md says %s, and the tool %r' % (number, row[2], answer[1].split('\n')[-2]))
+    return wrong
+
+
+CASES = [names_that_the_documents_name, what_measured_programs_import, readme_as_it_runs, definitions_to_read,
+         definitions_of_every_function, headline_sentence_by_sentence]

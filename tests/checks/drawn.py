@@ -1,23 +1,24 @@
 """Traces, orders and journals that are drawn from seeds, and where program and model differ on them."""
 import concurrent.futures
-import os
 import random
-import subprocess
-import tempfile
 
 import model
-from checks.program import PAGE, PROGRAM
+from checks.modelled import run_by_the_model
+from checks.program import PAGE, run
+from checks.spoiled import spoiled_text, spoiled_words
 
 TOY_TABLE = '16,1,4\n64,1,2\n8192,1,2\n'
 EVEN_TABLE = '16,1,4\n32,1,2\n64,1,1\n'       # each class grows by 64 bytes
-SECONDS = 60
 DRAINS = ('d ', 'z ')                           # the calls that no machine without slabs takes
+SHARE_OF_FAULTS = 0.25
+FAULTS = ['words', 'words', 'table', 'trace', 'trace', 'trace', 'order', 'journal', 'missing', 'several']
 
 
 class Case:
     """Table, trace and order of a seed, and the command that runs them. Limits are small, so that all kinds of answers
-    come. A second generator draws the command, a third one the step of a profile, and further ones the nodes and whether
-    drains stay, so that each draws as it did without those behind it."""
+    come. A second generator draws the command, a third one the step of a profile, and further ones the nodes, whether
+    drains stay, and a fault in a quarter of the cases, so that each draws as it did without those behind it. Texts are
+    strings with a letter for each byte."""
 
     def __init__(self, seed, command=None):
         self.draw = random.Random(seed)
@@ -38,6 +39,28 @@ class Case:
         self.words += ['--sample', '%d' % self.sample] if self.sample else []
         if self.draw.random() < 0.1:
             self.trace = 'events %d\n' % self.random_limit() + self.trace
+        self.faults = random.Random('fault %d' % seed)
+        self.fault = self.faults.choice(FAULTS) if self.faults.random() < SHARE_OF_FAULTS else None
+        self.audit_words = ['audit', '--classes', 'table', '--journal', 'journal']
+        self.journal, self.missing = '', []
+        self.spoil()
+
+    def spoil(self):
+        """Does what the fault says, but to a journal, which isn't there yet."""
+        if self.fault == 'words':
+            self.words = spoiled_words(self.faults, self.words)
+            self.audit_words = spoiled_words(self.faults, self.audit_words)
+        elif self.fault == 'table':
+            self.table = spoiled_text(self.faults, self.table, ',')
+        elif self.fault == 'trace':
+            self.trace = spoiled_text(self.faults, self.trace)
+        elif self.fault == 'order':
+            self.order = spoiled_text(self.faults, self.order or '0\n')
+        elif self.fault == 'missing':
+            self.missing = [self.faults.choice(['table', 'order', 'journal'])]
+        elif self.fault == 'several':
+            self.table, self.trace = spoiled_text(self.faults, self.table, ','), spoiled_text(self.faults, self.trace)
+            self.order = spoiled_text(self.faults, self.order or '0\n')
 
     def random_table(self):
         """One class to five, with at most 2048 objects in a span."""
@@ -165,26 +188,28 @@ class Case:
         return next((number for number, line in lines if line.startswith(DRAINS)), None)
 
     def random_limit(self):
-        """As many picks as there are, one less, or fewer."""
-        picks = self.replay().moved
+        """As many picks as there are, one less, or fewer. A run that isn't here has none."""
+        picks = self.replay().moved if self.has_slabs() or not self.first_drain() else 1
         return max(1, self.draw.choice([picks, picks - 1, self.draw.randint(0, picks)]))
 
-    def run(self, words, files):
-        """Status, text and notes of the program."""
-        with tempfile.TemporaryDirectory() as folder:
-            for name, text in files.items():
-                with open(os.path.join(folder, name), 'w') as file:
-                    file.write(text)
-            done = subprocess.run([PROGRAM] + words, input=self.trace.encode(), cwd=folder, stdout=subprocess.PIPE,
-                                  stderr=subprocess.PIPE, timeout=SECONDS)
-        return done.returncode, done.stdout.decode('latin-1'), done.stderr.decode('latin-1')
+    def files(self):
+        """What is in the folder of a run, as bytes."""
+        texts = {'table': self.table, 'order': self.order or '', 'journal': self.journal}
+        return {name.encode(): text.encode('latin-1') for name, text in texts.items() if name not in self.missing}
+
+    def answers(self, runner):
+        """Status, text and notes of what runs the words, and of what judges the journal."""
+        trace = self.trace.encode('latin-1')
+        answer = runner([word.encode('utf-8', 'surrogateescape') for word in self.words], trace, self.files())
+        if runner is run:                   # the journal is the program's text, or one that was changed
+            self.journal = self.journal_of(answer[1].decode('latin-1'))
+        return answer, runner([word.encode('utf-8', 'surrogateescape') for word in self.audit_words], trace, self.files())
+
+    def journal_of(self, text):
+        return spoiled_text(self.faults, text) if self.fault == 'journal' else self.changed(text)
 
     def program(self):
-        """What the program answers on the trace, and on the journal."""
-        answer = self.run(self.words, {'table': self.table, 'order': self.order or ''})
-        self.journal = self.changed(answer[1])
-        words = ['audit', '--classes', 'table', '--journal', 'journal']
-        return answer, self.run(words, {'table': self.table, 'journal': self.journal})
+        return self.answers(run)
 
     def changed(self, text):
         """A text as it is, or with a line left out, told twice or moved, or with a field changed."""
@@ -212,14 +237,27 @@ class Case:
 
     def model(self):
         """What the model answers on the trace, and on the journal."""
-        verdict, number, *why = model.audit(self.table, self.trace, self.journal)
-        if verdict == 'yes':
-            judged = 0, 'yes %d\n' % number, ''
-        else:
-            judged = 12, '', 'tcreplay: audit line %d: %s\n' % (number, why[0].lower())
-        if not self.has_slabs() and self.first_drain():
-            return (4, '', 'tcreplay: trace line %d: nothere\n' % self.first_drain()), judged
-        return model.answer(self.replay(), rows=True, sample=self.sample), judged
+        return self.answers(run_alone)
+
+
+def run_alone(words, stdin, files):
+    """The model's answer. Of worker threads it has that of one thread, if the trace has no more of them."""
+    answer = run_by_the_model(words, stdin, files)
+    if answer[0] == 1 and b'--workers' in words and not has_several_threads(stdin):
+        words = [word for word in words if word != b'--workers']
+        answer = run_by_the_model(words, stdin, files)
+    return answer
+
+
+def has_several_threads(trace):
+    """Whether lines of two threads may be in a trace."""
+    return len({line.split(b' ')[1] for line in trace.split(b'\n') if line[:2] in (b'a ', b'f ', b'r ', b'd ', b'z ', b'p ')}) > 1
+
+
+def is_same(answer, expected):
+    """Whether two answers are. What only worker threads could answer is told by the model with status 1, and by the program
+    as any that isn't a faulty command line."""
+    return answer[0] != 2 if expected[0] == 1 else answer == expected
 
 
 def differing(first, count, command=None):
@@ -230,5 +268,5 @@ def differing(first, count, command=None):
             cases = [Case(seed, command) for seed in seeds]
             for seed, case, answer in zip(seeds, cases, pool.map(Case.program, cases)):
                 expected = case.model()
-                if answer != expected:
+                if not all(map(is_same, answer, expected)):
                     yield seed, case, answer, expected

@@ -35,10 +35,12 @@ def table_one_byte_too_long():
 
 def heads_at_the_ends_of_their_ranges():
     """The least and the greatest value of each head, as docs/FORMATS.md tells them, are read, and what is beyond them is
-    refused. The model has its defaults."""
+    refused. The model has these ends and its defaults."""
     wrong = []
     if reading.HEADS != {name: head.default for name, head in HEADS.items()}:
         wrong.append('the model has the defaults %r' % reading.HEADS)
+    if reading.LIMITS != {name: (head.least, head.most) for name, head in HEADS.items()}:
+        wrong.append('the model has the ends %r' % reading.LIMITS)
     for head, (least, most, _) in HEADS.items():
         for value in (least, most):
             wrong += check_small(b'%s %d\n' % (head.encode(), value), 0, NOTHING)

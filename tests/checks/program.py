@@ -7,11 +7,11 @@ import tempfile
 
 TOP = os.path.dirname(os.path.dirname(os.path.dirname(os.path.abspath(__file__))))
 PROGRAM = os.path.join(TOP, 'crates', 'tcreplay', 'out', 'tcreplay')
-MODEL = os.path.join(TOP, 'tests', 'model')
+MODEL = os.path.join(TOP, 'model')
 ROWS = os.path.join(TOP, 'tests', 'rows')
 EXAMPLES = os.path.join(TOP, 'examples')
 SECONDS = 600
-UNBUILT = []            # commands of tests/model that the program doesn't have yet
+UNBUILT = []            # commands of ./model that the program doesn't have yet
 
 SERIAL = [b'serial', b'--classes', b'T0.csv']
 ORDER = [b'order', b'--classes', b'T0.csv', b'--order', b'O']
@@ -67,8 +67,8 @@ def differences(result, status, stdout, stderr=b''):
     return wrong
 
 
-def run_with(streams, words=SERIAL, stdin=None, close=(), most_bytes=None, files={}):
-    """One run in which some streams are these descriptors, which are then closed here, and those with the
+def run_with(streams, words=SERIAL, stdin=None, close=(), most_bytes=None, files={}, program=PROGRAM):
+    """One run, of the program if nothing else is said, in which some streams are these descriptors, which are then closed here, and those with the
     numbers of `close` are closed in the program. Standard input is the first example, if nothing is said. A
     file that is written has at most so many bytes, where that is said."""
     with tempfile.TemporaryDirectory() as folder:
@@ -82,7 +82,7 @@ def run_with(streams, words=SERIAL, stdin=None, close=(), most_bytes=None, files
                 signal.signal(signal.SIGXFSZ, signal.SIG_IGN)
                 resource.setrlimit(resource.RLIMIT_FSIZE, (most_bytes, most_bytes))
 
-        process = subprocess.Popen([PROGRAM.encode()] + words, cwd=folder, preexec_fn=begin,
+        process = subprocess.Popen([program.encode()] + words, cwd=folder, preexec_fn=begin,
                                    **{**pipes, **streams})
         for descriptor in streams.values():
             os.close(descriptor)

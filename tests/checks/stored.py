@@ -24,10 +24,13 @@ class Case:
         self.status = 0
 
     def check(self):
-        result = run(self.words, self.stdin, self.files, self.program)
+        return self.wrong_of(run(self.words, self.stdin, self.files, self.program))
+
+    def wrong_of(self, result):
+        """What is wrong with what came of a run."""
         if self.lines is not None:
             came = result[1].split(b'\n')
-            missing = [line for line in self.lines.split(b'\n') if line not in came]
+            missing = [line for line in self.lines.split(b'\n') if not set(line.split(b' | ')) & set(came)]
             return (differences((result[0], b'', result[2]), self.status, b'', self.stderr)
                     + ['stdout %r has no line %r' % (result[1][:300], line) for line in missing])
         if self.calls is None:
@@ -176,7 +179,7 @@ def case_of_example(name):
 
 def stored_cases():
     """The cases of tests/rows, and the examples. Those of a command that isn't built are the model's, which has no worker
-    threads and refuses nothing."""
+    threads."""
     stored = [case for name in sorted(os.listdir(ROWS)) for case in cases_of(name)]
     stored += [case_of_example(name[:-4]) for name in sorted(os.listdir(EXAMPLES)) if name.endswith('.out')]
     for case in stored:

@@ -4,6 +4,7 @@ import re
 import shutil
 import subprocess
 
+from checks.modelled import run_by_the_model
 from checks.program import TOP, read, run
 
 
@@ -29,9 +30,13 @@ def with_values(options):
 
 
 def is_refused(command, options):
-    words = [command] + [word for option in options for word in option]
+    """Whether these words are a faulty command line to the program, and to the model too."""
+    words = [word.encode() for word in [command] + [word for option in options for word in option]]
     files = {b'T0.csv': b'16,1,4\n'}
-    return run([word.encode() for word in words], b'', files)[0] == 2
+    refusals = [runner(words, b'', files)[0] == 2 for runner in (run, run_by_the_model)]
+    if len(set(refusals)) > 1:
+        raise ValueError('program and model differ on %s' % words)
+    return refusals[0]
 
 
 def proposed(words):

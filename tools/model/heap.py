@@ -1,10 +1,14 @@
 """The page heap: hugepages, and where runs of pages are placed. Hugepage h has the pages from h × 256 on."""
 import bisect
+import collections
+import itertools
+import operator
 
 PAGE = 8192             # bytes of a page
 PAGES = 256             # pages of a hugepage
 WHOLE = frozenset(range(PAGES))
 NONE = frozenset()
+NUMBER = operator.attrgetter('number')
 
 
 class Hugepage:
@@ -60,6 +64,10 @@ class Hugepage:
     def tier(self):
         return 2 if not self.is_whole() else 1 if self.donated else 0
 
+    def book(self):
+        """Its kind, but that free ones are apart by whether they are backed."""
+        return 'free and backed' if self.kind == 'free' and self.backed else self.kind
+
     def row(self, before=0):
         """Its line in the text, where so many others are numbered before the first of its heap."""
         return 'h %d %s %d %d %d %d %d' % (before + self.number, self.kind, self.used, len(self.runs), len(self.backed),
@@ -101,28 +109,50 @@ class Heap:
         self.cache, self.window, self.region, self.slack = (
             heads[name] for name in ('cache', 'window', 'region', 'slack'))
         self.at = {number: Hugepage(number) for number in range(1, heads['huge'] + 1)}
-        self.regions = []       # the first hugepage of each region
-        self.counts = []        # hugepages in use behind each of the last calls
+        self.books = {book: {} for book in ('free', 'free and backed', 'filler', 'run', 'region')}
+        self.books['free'].update(self.at)      # in each book the hugepages that stand there, by their numbers
+        self.regions = {}       # the first hugepage of each region: its unused ranges
+        self.counts = collections.deque(maxlen=self.window)     # hugepages in use behind each of the last calls
+
+    def changes(self, page, kind, backed=None):
+        """From here on a hugepage is of this kind, and only these of its pages are backed, if some are told."""
+        del self.books[page.book()][page.number]
+        page.kind = kind
+        given = 0 if backed is None else page.keep_backed(backed)
+        self.books[page.book()][page.number] = page
+        return given
 
     def hugepages_of(self, run):
         return [self.at[number] for number in range(run[0] // PAGES, (run[0] + run[1] - 1) // PAGES + 1)]
 
     def of_kind(self, kind):
-        return [page for page in self.at.values() if page.kind == kind]
+        """Those of a kind that isn't free, in any order."""
+        return self.books[kind].values()
 
     def free_backed(self):
-        return [page for page in self.at.values() if page.kind == 'free' and page.backed]
+        """By rising number."""
+        return sorted(self.books['free and backed'].values(), key=NUMBER)
+
+    def free_numbers(self):
+        """Of all free ones, rising."""
+        return sorted([*self.books['free'], *self.books['free and backed']])
+
+    def is_in_region(self, run):
+        return self.at[run[0] // PAGES].kind == 'region'
 
     def in_region(self, first):
         return [self.at[number] for number in range(first, first + self.region)]
 
-    def ranges_of_region(self, first):
+    def measure_region(self, run):
+        """Behind a change in the one in which a run lies."""
+        first = max(first for first in self.regions if first <= run[0] // PAGES)
         runs = {run for page in self.in_region(first) for run in page.runs}
-        return unused_ranges(sorted(runs), first * PAGES, (first + self.region) * PAGES)
+        self.regions[first] = unused_ranges(sorted(runs), first * PAGES, (first + self.region) * PAGES)
+        return first
 
     def slack_with(self, number):
         """Unused pages of donated hugepages, and those that so many pages would leave of whole hugepages."""
-        return sum(PAGES - page.used for page in self.at.values() if page.donated) + -number % PAGES
+        return sum(PAGES - page.used for page in self.of_kind('filler') if page.donated) + -number % PAGES
 
     # Choices.
 
@@ -136,14 +166,14 @@ class Heap:
         """The first of so many adjacent free hugepages, backed ones or else any, in the shortest range of them."""
         start = best_start(adjacent([page.number for page in self.free_backed()]), number)
         if start is None:
-            start = best_start(adjacent([page.number for page in self.of_kind('free')]), number)
+            start = best_start(adjacent(self.free_numbers()), number)
         return start
 
     def region_choice(self, number):
         """A place in the tightest region, of several the first."""
-        keys = [(longest(self.ranges_of_region(first)), first) for first in self.regions]
+        keys = [(longest(ranges), first) for first, ranges in self.regions.items()]
         fits = [key for key in keys if key[0] >= number]
-        return best_start(self.ranges_of_region(min(fits)[1]), number) if fits else None
+        return best_start(self.regions[min(fits)[1]], number) if fits else None
 
     # A new run of so many pages. Each way answers its first page, or None, and then nothing has changed.
 
@@ -167,7 +197,7 @@ class Heap:
             first = self.run_choice(1)
             if first is None:
                 return None
-            self.at[first].kind = 'filler'
+            self.changes(self.at[first], 'filler')
             self.at[first].back(WHOLE)
             start = first * PAGES
         return start
@@ -178,10 +208,11 @@ class Heap:
         if first is None:
             return None
         for page in self.hugepages_of((first * PAGES, number)):
-            page.kind = 'run'
+            self.changes(page, 'run')
             page.back(WHOLE)
         if number % PAGES:
-            page.kind, page.donated = 'filler', True
+            self.changes(page, 'filler')
+            page.donated = True
         return first * PAGES
 
     def place_in_region(self, number):
@@ -192,16 +223,19 @@ class Heap:
         first = self.run_choice(self.region)
         if first is None or self.slack_with(number) < self.slack:
             return self.place_in_whole(number)
-        self.regions.append(first)
+        self.regions[first] = [(first * PAGES, self.region * PAGES)]
         for page in self.in_region(first):
-            page.kind = 'region'
+            self.changes(page, 'region')
         return first * PAGES
 
     def hold(self, run):
         """The run is live, and its pages are backed; hugepages of a region are backed whole."""
         for page in self.hugepages_of(run):
             page.hold(run)
-            page.back(WHOLE if page.kind == 'region' else page.pages_of(run))
+            if not page.is_whole():
+                page.back(WHOLE if page.kind == 'region' else page.pages_of(run))
+        if self.is_in_region(run):
+            self.measure_region(run)
 
     # Giving back.
 
@@ -209,24 +243,31 @@ class Heap:
         for page in self.hugepages_of(run):
             page.let_go(run)
             if page.kind == 'run':
-                page.kind = 'free'
+                self.changes(page, 'free')
             elif page.kind == 'filler' and not page.runs:
-                page.kind, page.donated = 'free', False
-                page.keep_backed(WHOLE if page.is_whole() else NONE)
-        for first in [first for first in self.regions if not any(page.runs for page in self.in_region(first))]:
-            self.regions.remove(first)
-            for page in self.in_region(first):
-                page.kind = 'free'
+                page.donated = False
+                self.changes(page, 'free', WHOLE if page.is_whole() else NONE)
+        if self.is_in_region(run):
+            self.free_in_region(run)
         self.settle()
+
+    def free_in_region(self, run):
+        """A region without used pages ends."""
+        first = self.measure_region(run)
+        if not any(page.runs for page in self.in_region(first)):
+            del self.regions[first]
+            for page in self.in_region(first):
+                self.changes(page, 'free')
 
     def settle(self):
         """Behind a new run and a free: the use is noted, and free hugepages beyond the limit are unbacked, the
         greatest first."""
         if self.window > 0:
-            self.counts = (self.counts + [len(self.at) - len(self.of_kind('free'))])[-self.window:]
-        backed, limit = self.free_backed(), self.limit()
-        while len(backed) > limit:
-            backed.pop().keep_backed(NONE)
+            self.counts.append(sum(len(self.books[kind]) for kind in ('filler', 'run', 'region')))
+        limit = self.limit()
+        if len(self.books['free and backed']) > limit:
+            for page in self.free_backed()[limit:]:
+                self.changes(page, 'free', NONE)
 
     def limit(self):
         """How many free hugepages may stay backed."""
@@ -237,23 +278,27 @@ class Heap:
     def release(self, number):
         """Unbacks so many pages or more, and tells how many: of free hugepages from the greatest on, of unused ones
         of regions likewise, and then of the filler's, the emptiest first, of several the greatest."""
-        unused = [page for page in self.of_kind('region') if page.backed and not page.runs]
-        filler = sorted(self.of_kind('filler'), key=lambda page: (page.used, -page.number))
+        unused = [page for page in sorted(self.of_kind('region'), key=NUMBER) if page.backed and not page.runs]
+        filler = sorted([page for page in self.of_kind('filler') if len(page.backed) > page.used],
+                        key=lambda page: (page.used, -page.number))
         given = 0
         for page in self.free_backed()[::-1] + unused[::-1] + filler:
             if given >= number:
                 break
-            given += page.keep_backed(page.used_pages())
+            given += self.changes(page, page.kind, page.used_pages())
         return given
 
     # Counts.
 
+    def in_use(self):
+        return itertools.chain(self.of_kind('filler'), self.of_kind('run'), self.of_kind('region'))
+
     def used(self):
-        return sum(page.used for page in self.at.values())
+        return sum([page.used for page in self.in_use()])
 
     def resident(self):
-        return sum(len(page.backed) for page in self.at.values())
+        return sum([len(page.backed) for page in itertools.chain(self.in_use(), self.free_backed())])
 
     def covered(self):
         """The used pages that lie in wholly backed hugepages."""
-        return sum(page.used for page in self.at.values() if page.is_whole())
+        return sum([page.used for page in self.in_use() if page.is_whole()])

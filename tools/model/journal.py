@@ -1,12 +1,13 @@
 """Whether a journal of answered calls is a legal one for a trace, whoever wrote it."""
 import bisect
-import re
 
 from .heap import PAGE, PAGES
-from .reading import fields_of, read_table, read_trace
+from .lines import MOST_LINES, fields_of, number
+from .reading import read_trace
+from .refusal import Refusal, refused_answer
+from .tables import read_table
 
-MOST_CALLS = 1000000
-NUMBER = re.compile(r'0|[1-9][0-9]*')
+MOST = 2 ** 64 - 1
 # The forms of a line: each field is a word, a number, or one of several words.
 FORMS = [('a', '#', '#', '#', '#'), ('a', '#', '#', 'none'), ('f', '#', '#', '#'), ('f', '#', '#', 'none'),
          ('r', '#', '#'), ('d', '#', '#', 'ok', '#'), ('d', '#', '#', 'busy', '#'), ('z', '#', '#', '#', '#', 'ok'),
@@ -15,19 +16,15 @@ FORMS = [('a', '#', '#', '#', '#'), ('a', '#', '#', 'none'), ('f', '#', '#', '#'
 NAMED = {'a': 1, 'f': 1, 'r': 0, 'd': 1, 'z': 3}    # how many of a call's numbers its line names
 
 
-def is_number(field):
-    return NUMBER.fullmatch(field) is not None and int(field) < 2 ** 64
-
-
 def has_form(fields, form):
-    return len(fields) == len(form) and all(is_number(field) if part == '#' else field == part
+    return len(fields) == len(form) and all(number(field, 0, MOST) is not None if part == '#' else field == part
                                             for field, part in zip(fields, form))
 
 
 class Journal:
     def __init__(self, table, trace):
         self.table = read_table(table)
-        self.heads, calls = read_trace(trace)
+        self.heads, calls = read_trace(trace, len(self.table))
         self.left = [[] for _ in range(self.heads['threads'])]
         for call in reversed(calls):
             self.left[call.thread].append(call)
@@ -47,9 +44,9 @@ class Journal:
                 return left[-1]
         return None
 
-    def reason(self, number, fields):
+    def reason(self, line, fields):
         """The first rule that a line fails, or None. A line that fails none is taken in."""
-        if number > MOST_CALLS:
+        if line > MOST_LINES:
             return 'Lines'
         if not any(has_form(fields, form) for form in FORMS):
             return 'Form'
@@ -89,15 +86,24 @@ class Journal:
             del self.blocks[bisect.bisect(self.blocks, (int(answer), 0))]
         return None
 
+    def judge(self, text):
+        """How many calls a legal journal tells. Another one is refused."""
+        told = 0
+        for fields in fields_of(text):
+            if fields[0] == 'calls':
+                break
+            told += 1
+            reason = self.reason(told, fields)
+            if reason:
+                raise refused_answer(told, reason)
+        if any(self.left):
+            raise refused_answer(told + 1, 'Missing')
+        return told
+
 
 def audit(table, trace, text):
-    """('yes', the number of calls), or ('no', the first line that fails, its first reason)."""
-    journal, number = Journal(table, trace), 0
-    for fields in fields_of(text):
-        if fields[0] == 'calls':
-            break
-        number += 1
-        reason = journal.reason(number, fields)
-        if reason:
-            return 'no', number, reason
-    return ('no', number + 1, 'Missing') if any(journal.left) else ('yes', number)
+    """The status, the text and the notes of a journal."""
+    try:
+        return 0, 'yes %d\n' % Journal(table, trace).judge(text), ''
+    except Refusal as refusal:
+        return refusal.status, '', refusal.note

@@ -3,9 +3,11 @@ import collections
 
 from .caches import CachesOfThreads, NoCaches
 from .heap import PAGE, PAGES, Heap
-from .reading import read_order, read_table, read_trace
+from .reading import read_order, read_trace
+from .refusal import refused_line
 from .slabs import Cpu, SlabsOfCpus, Thread
 from .spans import Shard, Span, put_whole, take_last
+from .tables import read_table
 
 Block = collections.namedtuple('Block', 'address length asked row')    # row is its class, or None of a large one
 
@@ -20,8 +22,12 @@ class Node:
         self.number = number
         self.shards = [Shard(heads['transfer']) for _ in table]
         self.heap = Heap(heads)
-        self.map = {}           # page: the run that holds it, and its class, or None
+        self.map = {}           # first page of a run: the run, and its class, or None
         self.offset = number * heads['huge'] * PAGES * PAGE
+
+    def run_with(self, page):
+        """The run that holds a page, and its class. An address of a large block is on its first page; spans have at most 255."""
+        return next(self.map[page - back] for back in range(PAGES) if page - back in self.map)
 
 
 class World:
@@ -79,12 +85,11 @@ class World:
 
     def set_map(self, name, thread, run, row):
         yield 'page map', name
-        thread.node.map.update({page: (run, row) for page in range(run[0], run[0] + run[1])})
+        thread.node.map[run[0]] = run, row
 
     def clear_map(self, name, thread, run):
         yield 'page map', name
-        for page in range(run[0], run[0] + run[1]):
-            del thread.node.map[page]
+        del thread.node.map[run[0]]
 
     def free_spans(self, thread):
         """Those that left their shards: each leaves the map, and then it is freed."""
@@ -176,7 +181,7 @@ class World:
             return
         thread.node = self.node_with(address)
         yield 'page map', 'Lookup'
-        run, row = thread.node.map[(address - thread.node.offset) // PAGE]
+        run, row = thread.node.run_with((address - thread.node.offset) // PAGE)
         if row is not None:
             yield from self.free_object(thread, label, address, row)
         else:
@@ -256,6 +261,13 @@ class World:
             thread.leave()
 
 
+def refuse_what_is_not_here(calls, command):
+    """No drain and no resize, if no CPU has a slab."""
+    for call in calls:
+        if command in FRONTS and call.word in 'dz':
+            raise refused_line(call.line, 'NotHere')
+
+
 class Full(Exception):
     """A pick would move, and as many have moved as may."""
 
@@ -264,7 +276,8 @@ class Listener:
     """What is told of a run, act by act. An act is its part and its name."""
 
     def acted(self, replay, thread, call, act):
-        """Behind an act of a call. Where it was one of a sequence or a growth, `thread.instruction` says which."""
+        """Behind an act of a call. Where it was one of a sequence or a growth, `thread.instruction` says which, and
+        `thread.dropped` what it noted in vain, if it begins anew."""
 
     def stood(self, replay, thread):
         """A pick of an order file moved nothing: the thread waits, or its calls have ended."""
@@ -274,9 +287,11 @@ class Replay:
     """A run over the texts of table, trace and order."""
 
     def __init__(self, table, trace, order='', listener=None, command='serial', nodes=1):
-        self.heads, self.calls = read_trace(trace)
+        classes = read_table(table)
+        self.heads, self.calls = read_trace(trace, len(classes))
+        refuse_what_is_not_here(self.calls, command)
         self.order = order
-        self.world = World(read_table(table), self.heads, command, nodes)
+        self.world = World(classes, self.heads, command, nodes)
         scripts = [[] for _ in range(self.heads['threads'])]
         for call in self.calls:
             scripts[call.thread].append(call)
@@ -288,13 +303,20 @@ class Replay:
 
     def run(self):
         """The picks of the order, and then the rest. Answers this very run."""
+        picks = read_order(self.order, len(self.threads))
         try:
-            for number in read_order(self.order):
-                self.pick(self.threads[number])
+            for number, count in picks:
+                self.pick_often(self.threads[number], count)
             self.complete()
         except Full:
             self.is_full = True
         return self
+
+    def pick_often(self, thread, count):
+        """So many picks. If one changes nothing, those behind it don't either, and a listener alone is told of them."""
+        for _ in range(count):
+            if not self.pick(thread) and not self.listener:
+                break
 
     def begin_call(self, thread):
         """The thread stands before the first act of its next call, if there is one."""
@@ -306,19 +328,20 @@ class Replay:
             thread.next_act = next(thread.program)
 
     def waits(self, thread):
+        """For a label that isn't published, if its next act asks for one."""
         return thread.waits_for is not None and thread.waits_for not in self.world.names
 
     def pick(self, thread):
-        """The thread's next act. Nothing happens where its calls have ended, or it waits."""
-        if thread.program is None or self.waits(thread):
+        """The thread's next act, and whether it moved. Nothing happens if its calls have ended, or it waits."""
+        if thread.program is None or (thread.waits_for is not None and self.waits(thread)):
             if self.listener:
                 self.listener.stood(self, thread)
-            return
+            return False
         if self.moved == self.events:
             raise Full
         self.moved += 1
         call, act = thread.calls[thread.ended], thread.next_act
-        thread.instruction = None
+        thread.instruction = thread.dropped = None
         try:
             thread.next_act = next(thread.program)
         except StopIteration:
@@ -327,11 +350,13 @@ class Replay:
             self.begin_call(thread)
         if self.listener:
             self.listener.acted(self, thread, call, act)
+        return True
 
     def complete(self):
         """The thread of the earliest call that hasn't ended is picked, again and again."""
         due = collections.Counter()
         for call in self.calls:
             due[call.thread] += 1
-            while self.threads[call.thread].ended < due[call.thread]:
-                self.pick(self.threads[call.thread])
+            thread, ended = self.threads[call.thread], due[call.thread]
+            while thread.ended < ended:
+                self.pick(thread)

@@ -63,6 +63,29 @@ class Cpu:
         return 'ok'
 
 
+class Registers:
+    """What a sequence has noted since it began: nothing of it counts before Commit."""
+
+    __slots__ = ('name', 'row', 'has_begun', 'top', 'wanted', 'copied')
+
+    def __init__(self, name, row):
+        self.name, self.row = name, row
+        self.has_begun = False
+        self.top = None             # what Header noted
+        self.wanted = None          # how many objects Test found to take, or to add
+        self.copied = []            # the objects that were loaded, or stored
+
+    def instruction(self):
+        """The instruction that comes next."""
+        if not self.has_begun:
+            return 'Begin'
+        if self.top is None:
+            return 'Header'
+        if self.wanted is None:
+            return 'Test'
+        return 'Copy' if len(self.copied) < self.wanted else 'Commit'
+
+
 class Thread:
     def __init__(self, number, cpus, calls):
         self.number, self.cpus, self.calls = number, cpus, calls
@@ -75,6 +98,8 @@ class Thread:
         self.move = None            # of its call, where it is still to come
         self.executed = 0           # instructions in its call
         self.instruction = None     # what its last act was, where that was one of a sequence or a growth
+        self.registers = None       # of its sequence, while it is in one,
+        self.dropped = None         # and those that its last act dropped, if the sequence had begun
         self.hand = []              # objects that its call has,
         self.hand_row = None        # all of this class
         self.node = None            # where its call acts behind the front
@@ -91,6 +116,21 @@ class Thread:
             self.cpu.epoch += 1
         self.cpu = self.cpus[self.move[1]]
         self.move = None
+
+    def is_move_due(self):
+        return self.move is not None and self.executed == self.move[0] - 1
+
+    def upcoming(self):
+        """What the next act is, where it is one of a sequence or a growth: by the first of the rules that applies."""
+        if self.registers is None and (self.next_act is None or self.next_act[1] != 'Grow'):
+            return None
+        if self.registers is not None and self.is_move_due():
+            return 'Leave'
+        if self.cpu.running is not self:
+            return 'In'
+        if self.epoch != self.cpu.epoch:
+            return 'Back'
+        return self.registers.instruction() if self.registers is not None else 'Grow'
 
     def is_switched(self):
         """Whether this act makes the thread run at its CPU, or tells it that a fence came since."""
@@ -113,13 +153,14 @@ class Thread:
         self.instruction = 'Grow'
         self.cpu.grow(row)
 
-    def sequence(self, name, instructions):
+    def sequence(self, name, row, instructions):
         """One restartable sequence. It is begun anew where the thread left, was switched in, or was sent back."""
-        steps = instructions(self.cpu)
+        noted = self.registers = Registers(name, row)
+        steps = instructions(self.cpu, noted)
         act = 'CPU', name
         while True:
             yield act
-            if self.move is not None and self.executed == self.move[0] - 1:
+            if self.move is not None and self.is_move_due():
                 self.leave()
             elif not self.is_switched():
                 self.executed += 1
@@ -128,50 +169,55 @@ class Thread:
                     continue
                 except StopIteration as done:
                     reply, result = done.value
-                    self.instruction = LAST[reply]
+                    self.instruction, self.registers = LAST[reply], None
                     return reply, result
-            steps = instructions(self.cpu)
+            self.dropped = noted if noted.has_begun else None
+            noted = self.registers = Registers(name, row)
+            steps = instructions(self.cpu, noted)
 
     # In the two below a `yield` stands behind each instruction but the last, and names that instruction.
 
     def pop(self, name, row, most):
         """Takes up to so many objects from the top down. Answers 'popped', 'empty' or 'stopped', and the objects."""
-        def instructions(cpu):
+        def instructions(cpu, noted):
+            noted.has_begun = True
             yield 'Begin'
             if cpu.stopper is not None:
                 return 'stopped', []
-            top = cpu.top[row.number]
+            noted.top = top = cpu.top[row.number]
             yield 'Header'
             if top == 0:
                 return 'empty', []
-            count, loaded = min(most, top), []
+            noted.wanted = count = min(most, top)
             yield 'Test'
             for place in range(1, count + 1):
-                loaded.append(cpu.slots[row.number][top - place])
+                noted.copied.append(cpu.slots[row.number][top - place])
                 yield 'Copy'
             cpu.top[row.number] = top - count
-            return 'popped', loaded
-        return (yield from self.sequence(name, instructions))
+            return 'popped', noted.copied
+        return (yield from self.sequence(name, row, instructions))
 
     def push(self, name, row):
         """Adds the first objects of the hand, as many as may. Answers 'pushed', 'full' or 'stopped'."""
-        def instructions(cpu):
+        def instructions(cpu, noted):
+            noted.has_begun = True
             yield 'Begin'
             if cpu.stopper is not None:
                 return 'stopped', None
-            top = cpu.top[row.number]
+            noted.top = top = cpu.top[row.number]
             yield 'Header'
             if top == cpu.cap[row.number]:
                 return 'full', None
-            count = min(len(self.hand), cpu.cap[row.number] - top)
+            noted.wanted = count = min(len(self.hand), cpu.cap[row.number] - top)
             yield 'Test'
             for place in range(count):
                 cpu.slots[row.number][top + place] = self.hand[place]
+                noted.copied.append(self.hand[place])
                 yield 'Copy'
             cpu.top[row.number] = top + count
             del self.hand[:count]
             return 'pushed', None
-        return (yield from self.sequence(name, instructions))[0]
+        return (yield from self.sequence(name, row, instructions))[0]
 
 
 LAST = {'stopped': 'Header, stopped', 'empty': 'Test, empty', 'full': 'Test, full', 'popped': 'Commit',
