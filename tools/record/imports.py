@@ -1,10 +1,14 @@
 """Reads what others recorded: heaptrack's files, raw or interpreted, and the logs of glibc's mtrace."""
 import collections
 import gzip
+import io
 import os
 import re
 import shutil
+import stat
 import subprocess
+import tempfile
+import zlib
 
 import logs
 from logs import ALLOCATION, FREE, KEPT, MOVED, Note
@@ -14,7 +18,9 @@ from shared.ends import Stop
 ZSTD, GZIP = b'\x28\xb5\x2f\xfd', b'\x1f\x8b'
 ONE_THREAD = 'threads aren\'t recorded by %s: all calls are of one'
 OLDEST = 'an interpreted file doesn\'t say which block of a place and size is freed: the oldest was taken'
-MTRACE_CALL = re.compile(r'([-+<>!]) (0x[0-9a-f]+|\(nil\))(?: (0x[0-9a-f]+))?$')
+MTRACE_CALL = re.compile(r'([-+<>!]) (0x[0-9a-f]{1,16}|\(nil\))(?: (0x[0-9a-f]{1,16}))?$')
+HEXADECIMAL = re.compile('[0-9a-f]{1,16}')
+MOST_BYTES = 1 << 30            # of a file, as it is and unpacked
 
 
 def recording_of(path):
@@ -30,24 +36,49 @@ def recording_of(path):
 
 
 def unpacked(path):
-    data = ends.read_bytes(path)
+    if stat.S_ISCHR(os.stat(path).st_mode):
+        raise Stop('%s is a device' % path)
+    with open(path, 'rb') as file, ends.named(path):
+        data = file.read(MOST_BYTES + 1)
     if data.startswith(GZIP):
-        try:
-            return gzip.decompress(data)
-        except (OSError, EOFError) as fault:
-            raise Stop('%s: %s' % (path, fault)) from None
-    if data.startswith(ZSTD):
-        if shutil.which('zstd') is None:
-            raise Stop('zstd is missing: tools/setup installs it')
-        done = subprocess.run(['zstd', '-dc'], input=data, stdout=subprocess.PIPE, stderr=subprocess.PIPE)
-        if done.returncode != 0:
-            raise Stop('%s: %s' % (path, done.stderr.decode(errors='replace').strip() or 'zstd failed'))
-        return done.stdout
+        data = by_gzip(path, data)
+    elif data.startswith(ZSTD):
+        data = by_zstd(path, data)
+    if len(data) > MOST_BYTES:
+        raise Stop('%s has more than %d bytes' % (path, MOST_BYTES))
     return data
+
+
+def by_gzip(path, data):
+    try:
+        return gzip.GzipFile(fileobj=io.BytesIO(data)).read(MOST_BYTES + 1)
+    except (OSError, EOFError, zlib.error) as fault:
+        raise Stop('%s: %s' % (path, fault)) from None
+
+
+def by_zstd(path, data):
+    if shutil.which('zstd') is None:
+        raise Stop('zstd is missing: tools/setup --all installs it')
+    with tempfile.TemporaryFile() as source, tempfile.TemporaryFile() as said:
+        source.write(data)
+        source.seek(0)
+        with subprocess.Popen(['zstd', '-dc'], stdin=source, stdout=subprocess.PIPE, stderr=said) as process:
+            text = process.stdout.read(MOST_BYTES + 1)
+            process.stdout.close()
+        said.seek(0)
+        if process.returncode != 0 and len(text) <= MOST_BYTES:
+            raise Stop('%s: %s' % (path, said.read().decode(errors='replace').strip() or 'zstd failed'))
+    return text
 
 
 def broken(name, number):
     return Stop('%s: line %d isn\'t as it should be' % (name, number))
+
+
+def hexadecimal(word):
+    if not HEXADECIMAL.fullmatch(word):
+        raise ValueError(word)
+    return int(word, 16)
 
 
 def heaptrack(name, lines):
@@ -59,15 +90,15 @@ def heaptrack(name, lines):
         fields = line.split(' ')
         try:
             if is_raw and fields[0] == '+':
-                notes.append(Note(int(fields[3], 16), int(fields[1], 16), 0, ALLOCATION))
+                notes.append(Note(hexadecimal(fields[3]), hexadecimal(fields[1]), 0, ALLOCATION))
             elif is_raw and fields[0] == '-':
-                notes.append(Note(int(fields[1], 16), 0, 0, FREE))
+                notes.append(Note(hexadecimal(fields[1]), 0, 0, FREE))
             elif fields[0] == 'a':
-                places.add(int(fields[1], 16))
+                places.add(hexadecimal(fields[1]))
             elif fields[0] == '+':
-                notes.append(places.come(int(fields[1], 16)))
+                notes.append(places.come(hexadecimal(fields[1])))
             elif fields[0] == '-':
-                notes.append(places.go(int(fields[1], 16)))
+                notes.append(places.go(hexadecimal(fields[1])))
         except (ValueError, IndexError):
             raise broken(name, number) from None
     remarks = [ONE_THREAD % 'heaptrack']

@@ -13,7 +13,8 @@ COMPILER = ['gcc', '-std=gnu11', '-O2', '-Wall', '-Wextra', '-fPIC', '-shared', 
 
 
 def cache():
-    return os.path.join(os.environ.get('XDG_CACHE_HOME') or os.path.expanduser('~/.cache'), 'tcreplay')
+    """The cache folder. A name that begins in this folder is made whole, as the program may go to another one."""
+    return os.path.abspath(os.path.join(os.environ.get('XDG_CACHE_HOME') or os.path.expanduser('~/.cache'), 'tcreplay'))
 
 
 def built():
@@ -29,7 +30,7 @@ def built():
 
 def compile_to(path):
     if shutil.which(COMPILER[0]) is None:
-        raise Stop('gcc is missing: the recorder\'s library is compiled with it once')
+        raise Stop('gcc is missing: the recorder\'s library is compiled with it once; tools/setup installs it')
     try:
         os.makedirs(os.path.dirname(path), exist_ok=True)
     except OSError as fault:
@@ -41,5 +42,5 @@ def compile_to(path):
                           text=True)
     if done.returncode != 0:
         said = [line for line in done.stderr.split('\n') if 'error' in line] or [done.stderr.strip() or 'no message']
-        raise Stop('the library couldn\'t be compiled: %s' % said[0])
+        raise Stop('the library couldn\'t be compiled (tools/setup installs what it needs): %s' % said[0])
     os.replace(made, path)

@@ -1,16 +1,11 @@
 """The options of a trace, which recording and importing have in common."""
 import argparse
 
+from shared import releases
+from shared.ends import Stop
+from shared.wording import number, utf8
+
 import traces
-
-
-def number(least, most):
-    """A reader of a number of these."""
-    def read(word):
-        if not word.isdecimal() or not least <= int(word) <= most:
-            raise argparse.ArgumentTypeError('a number from %d to %d is wanted' % (least, most))
-        return int(word)
-    return read
 
 
 def head(word):
@@ -18,6 +13,19 @@ def head(word):
     if name not in traces.HEADS:
         raise argparse.ArgumentTypeError('%s is none of %s' % (name or 'nothing', ', '.join(traces.HEADS)))
     return '%s %d' % (name, number(*traces.HEADS[name])(value))
+
+
+def release(word):
+    try:
+        return releases.of(word)
+    except Stop as stop:
+        raise argparse.ArgumentTypeError(stop) from None
+
+
+def folder(word):
+    if not word:
+        raise argparse.ArgumentTypeError('a folder\'s name is wanted')
+    return utf8(word)
 
 
 def add_to(parser):
@@ -37,12 +45,22 @@ def add_to(parser):
            help='of a thousand calls, about so many get a line `p`: their thread is preempted and moved (0)')
     option('--seed', metavar='N', type=number(0, traces.MOST_SEED), default=usual.seed,
            help='from which those calls, their instructions and CPUs are drawn (1)')
+    option('--release', metavar='L/N', type=release,
+           help='after each L lines of calls a line `r` of N pages, of the thread of the line before')
     option('--threads', metavar='N', type=number(1, traces.MOST_THREADS), default=usual.threads,
            help='the trace stops where a further thread comes, 1 to 64 (64)')
     option('--lines', metavar='N', type=number(len(traces.OWN_HEADS), traces.MOST_LINES), default=usual.lines,
            help='the trace stops where a call would pass so many lines, 3 to 1000000 (1000000)')
     option('--labels', metavar='N', type=number(1, traces.MOST_LABELS), default=usual.labels,
            help='the trace stops where so many labels are used, 1 to 1000000 (1000000)')
+
+
+def see_heads(parser, given):
+    """A head that is named twice would be the later one of them, so it is refused."""
+    names = [head.split(' ')[0] for head in given.head]
+    for name in names:
+        if names.count(name) > 1:
+            parser.error('argument --head: %s is named twice' % name)
 
 
 def of(given):

@@ -6,6 +6,7 @@ from shared import ends
 from traces import grouped
 
 NAME = 'report.json'
+BEGINNINGS = [b'{\n "words": ', b'{\n "processes": ']
 
 
 def lines_of(made):
@@ -29,14 +30,15 @@ def by_name(counted):
     return {what: count for count, what in counted}
 
 
-def write(folder, known, entries):
-    """Writes the report. What isn't known of the run is as an older report of the folder has it."""
-    path = os.path.join(folder, NAME)
+def known_of(folder):
+    """What an older report of the folder knows of the run."""
     try:
-        older = json.loads(ends.read_bytes(path))
-    except (OSError, ValueError):
-        older = {}
-    report = {**{name: older[name] for name in ('words', 'begun', 'seconds', 'status') if name in older}, **known,
-              'processes': entries}
-    with ends.written(path) as file:
-        file.write(json.dumps(report, indent=1) + '\n')
+        older = json.loads(ends.read_bytes(os.path.join(folder, NAME)))
+        return {name: older[name] for name in ('words', 'begun', 'seconds', 'status') if name in older}
+    except (OSError, ValueError, TypeError, RecursionError):
+        return {}
+
+
+def text(folder, known, entries):
+    """The report. What isn't known of the run is as an older report of the folder has it."""
+    return json.dumps({**known_of(folder), **known, 'processes': entries}, indent=1) + '\n'

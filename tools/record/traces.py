@@ -1,7 +1,7 @@
 """Makes traces of recordings. `trace_of` makes one, with what there is to report of it."""
 import collections
 
-from shared import heads
+from shared import heads, releases
 
 import logs
 
@@ -20,9 +20,9 @@ INSTRUCTIONS = 8                # a preempted call is left before one of its fir
 # Heads that may be asked for by name, with their least and greatest values.
 HEADS = {name: head[:2] for name, head in heads.HEADS.items() if name not in OWN_HEADS}
 
-Options = collections.namedtuple('Options', 'cpus threads lines labels moves seed huge head skip every')
+Options = collections.namedtuple('Options', 'cpus threads lines labels moves seed huge head skip every release')
 USUAL = Options(cpus=1, threads=MOST_THREADS, lines=MOST_LINES, labels=MOST_LABELS, moves=0, seed=1, huge=None, head=(),
-                skip=0, every=1)
+                skip=0, every=1, release=None)
 Block = collections.namedtuple('Block', 'label size thread')
 TOO_LARGE, NOT_CHOSEN = 'too large', 'not chosen'
 
@@ -38,7 +38,11 @@ class Draws:
 
 
 class Stopped(Exception):
-    """The trace ends before a call that would pass a limit."""
+    """The trace ends before a line that would pass a limit."""
+
+    def __init__(self, why, at):
+        super().__init__(why)
+        self.at = at
 
 
 class Maker:
@@ -54,6 +58,7 @@ class Maker:
         self.live_bytes = 0
         self.peak_bytes = 0
         self.counts = collections.Counter()
+        self.due = None         # the thread of which a release is due
         self.steps = {
             logs.UNFINISHED: self.unfinished, logs.ALLOCATION: self.allocation, logs.ALIGNED: self.aligned,
             logs.FREE: self.free, logs.MOVED: self.moved, logs.KEPT: self.kept}
@@ -115,7 +120,8 @@ class Maker:
             self.live[address] = why
             return
         if self.labels == self.options.labels:
-            raise Stopped('the last label is %s' % grouped(self.options.labels - 1))
+            raise Stopped('the last label is %s' % grouped(self.options.labels - 1),
+                          'label %s' % grouped(self.options.labels - 1))
         self.add(thread, 'a %%d %d %d' % (self.labels, size))
         self.live[address] = Block(self.labels, size, thread)
         self.labels += 1
@@ -143,14 +149,30 @@ class Maker:
 
     def add(self, thread, line):
         """Adds a call's line, and before it, at the rate that was asked for, one that moves its thread."""
+        self.release()
         if thread not in self.numbers and len(self.numbers) == self.options.threads:
-            raise Stopped('the most threads are %d' % self.options.threads)
+            raise Stopped('the most threads are %d' % self.options.threads, '%d threads' % self.options.threads)
         move = self.drawn_move()
-        if len(OWN_HEADS) + len(self.options.head) + len(self.lines) + len(move) + 1 > self.options.lines:
-            raise Stopped('the most lines are %s' % grouped(self.options.lines))
+        self.see_room_for(len(move) + 1)
         number = self.numbers.setdefault(thread, len(self.numbers))
         self.lines += [text % number for text in move + [line]]
         self.counts['moves'] += len(move)
+        self.counts['lines of calls'] += 1
+        if self.options.release and self.counts['lines of calls'] % self.options.release.lines == 0:
+            self.due = number
+
+    def release(self):
+        """Adds the release that is due, before whatever comes next."""
+        if self.due is not None:
+            self.see_room_for(1)
+            self.lines.append(releases.line(self.due, self.options.release))
+            self.counts['releases'] += 1
+            self.due = None
+
+    def see_room_for(self, lines):
+        if len(OWN_HEADS) + len(self.options.head) + len(self.lines) + lines > self.options.lines:
+            most = '%s lines' % grouped(self.options.lines)
+            raise Stopped('the most lines are %s' % grouped(self.options.lines), most)
 
     def drawn_move(self):
         if not self.options.moves or self.draws.below(1000) >= self.options.moves:
@@ -166,31 +188,42 @@ class Maker:
         return own + list(self.options.head)
 
 
+def heads_of(text):
+    """The heads that a trace begins with."""
+    for line in text.split('\n', len(OWN_HEADS) + len(HEADS)):
+        if line.split(' ')[0] not in heads.HEADS:
+            return
+        yield line
+
+
 def grouped(number):
     return '{:,}'.format(number)
 
 
-# What there is to say of a trace: its text, the counts by what they count, what was left out, and where it stopped.
-Made = collections.namedtuple('Made', 'text counts left_out remarks peak_bytes stopped after')
+# What there is to say of a trace: its text, the counts by what they count, what was left out, why and at what it stopped,
+# how many calls came after, and the options that it was made by.
+Made = collections.namedtuple('Made', 'text counts left_out remarks peak_bytes stopped at after options')
 
 
 def trace_of(recording, options):
     maker = Maker(options)
-    stop = None
+    stop = at = None
     taken = 0
     try:
         for note in recording.notes():
             maker.take(*note)
             taken += 1
+        maker.release()
     except Stopped as stopped:
-        stop = str(stopped)
+        stop, at = str(stopped), stopped.at
     if not stop and recording.kept < recording.calls:
+        at = '%s calls of the log' % grouped(recording.kept)
         stop = 'the log has room for %s calls' % grouped(recording.kept)
     lines = maker.heads() + maker.lines
     counts = {'lines': len(lines), **{name: maker.counts[name] for name in ('allocations', 'frees', 'moves')},
               'threads': len(maker.numbers)}
     return Made(''.join(line + '\n' for line in lines), counts, left_out(recording, maker), remarks(recording, maker),
-                maker.peak_bytes, stop, recording.calls - taken)
+                maker.peak_bytes, stop, at, recording.calls - taken, options)
 
 
 def left_out(recording, maker):
@@ -212,6 +245,7 @@ def remarks(recording, maker):
     counts = maker.counts
     return counted(
         (counts['skipped'], 'calls were skipped; the blocks that were live then come first'),
+        (counts['releases'], 'releases were added: the program asked for none of them'),
         (counts['live at the cut'], 'of these allocations are of blocks that were live at the cut'),
         (counts['frees by realloc'], 'of these frees are by realloc'),
         (counts['aligned'], 'of these allocations asked for an alignment, which a trace doesn\'t have'),
