@@ -1,23 +1,33 @@
 """Runs the cases of a sweep on a Dask cluster that the user has."""
 import logging
 import os
+import re
 
 from shared import ends
 from shared.ends import Stop
+from shared.wording import shown
 
+import changed
 import sweeping
 
 TRIES = 4                       # of a case whose worker is lost
 CONNECT = '15s'
+ADDRESS = re.compile(r'(?:(?:tcp|tls|ws|wss|ucx)://)?(?:[A-Za-z0-9._-]+|\[[0-9a-fA-F:.]+\]):[0-9]{1,5}')
 
 
-def on_worker(built, table, data, heads, command, points):
-    """One case on a worker, which keeps program and table as files in its own folder."""
+def check(address):
+    """An address must have the form of one, and Dask must be there."""
+    if not ADDRESS.fullmatch(address):
+        raise Stop('--scheduler is an address as tcp://127.0.0.1:8786, and not %s' % (shown(address) or 'an empty word'))
+    ends.package('distributed', 'python3-distributed')
+
+
+def on_worker(files, data, heads, machine, left_out, points):
+    """One case on a worker, which keeps program, table and order file in its own folder. Only plain values come as they are."""
     from distributed import get_worker
     folder = get_worker().local_directory
-    program_file = kept_file(folder, 'tcreplay', built, 0o700)
-    table_file = kept_file(folder, 'classes', table, 0o600)
-    return sweeping.measure(program_file, command, table_file, data, heads, points)
+    own = {name: kept_file(folder, name, content, 0o700 if name == 'built' else 0o600) for name, content in files.items()}
+    return sweeping.measure(sweeping.Machine(*machine)._replace(**own), data, heads, left_out, points)
 
 
 def kept_file(folder, name, data, mode):
@@ -32,7 +42,7 @@ def kept_file(folder, name, data, mode):
     return path
 
 
-def run(address, cases, traces, built, table, command, points):
+def run(address, cases, traces, machine, left_out, points):
     """Yields (case, row) as they end. What all cases need goes to each worker once."""
     distributed = ends.package('distributed', 'python3-distributed')
     logging.disable()           # what is lost is tried again, and what can't be done is said in one line
@@ -42,8 +52,12 @@ def run(address, cases, traces, built, table, command, points):
     except (OSError, ValueError, TimeoutError):
         raise Stop('no scheduler answers at %s' % address) from None
     try:
-        common = ends.read_bytes(built), ends.read_bytes(table)
-        yield from shared_out(client, distributed, cases, traces, common, command, points)
+        client.wait_for_workers(1, timeout=CONNECT)
+        paths = {name: getattr(machine, name) for name in ('built', 'classes', 'order')}
+        files = {name: ends.read_bytes(path) for name, path in paths.items() if path is not None}
+        yield from shared_out(client, distributed, cases, traces, files, (tuple(machine), left_out, points))
+    except TimeoutError:
+        raise Stop('the scheduler at %s has no worker: dask-worker %s starts one' % (address, address)) from None
     finally:
         client.close(timeout=2)
 
@@ -52,18 +66,19 @@ def by_value():
     """The workers need none of these modules: they get them with the function."""
     import cloudpickle
     import shared
-    from shared import prefixes, program
-    for module in (shared, ends, program, prefixes, sweeping, __import__(__name__)):
+    from shared import heads, prefixes, program, releases
+    for module in (shared, ends, heads, program, prefixes, releases, changed, sweeping, __import__(__name__)):
         cloudpickle.register_pickle_by_value(module)
 
 
-def shared_out(client, distributed, cases, traces, common, command, points):
+def shared_out(client, distributed, cases, traces, files, rest):
+    machine, left_out, points = rest
     left, tries = list(cases), 0
     while left:
         parts = {name: client.scatter(data, broadcast=True, hash=False) for name, data in traces.items()}
-        files = client.scatter(list(common), broadcast=True, hash=False)
-        futures = {client.submit(on_worker, *files, parts[case.trace], case.heads, command, points, pure=False): case
-                   for case in left}
+        common = client.scatter([files], broadcast=True, hash=False)[0]
+        futures = {client.submit(on_worker, common, parts[case.trace], case.heads, machine, left_out[case.trace], points,
+                                 pure=False): case for case in left}
         left = []
         for future in distributed.as_completed(futures):
             fault = future.exception() if future.status == 'error' else None

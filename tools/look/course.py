@@ -14,33 +14,31 @@ def point_of(sample):
                  sample.nones, sample.covered, sample.rows)
 
 
-def x_of(position, line, by_moves):
-    return position if by_moves else line
-
-
-def told(point, by_moves):
-    """A point for the page, without its hugepages."""
-    fields = point._asdict()
-    del fields['rows']
-    return dict(fields, x=x_of(point.position, point.line, by_moves))
+def told(points, x_of):
+    """Points for the page, field by field and without their hugepages."""
+    fields = {name: [getattr(point, name) for point in points]
+              for name in ('position', 'line', 'blocks', 'live', 'used', 'resident', 'frag', 'nones', 'covered')}
+    return dict(fields, x=[x_of(point.position, point.line) for point in points])
 
 
 def changes(points):
-    """For each point the hugepages that aren't as they were at the one before, as (place, kind, used, runs, ..)."""
+    """For each point the hugepages that aren't as they were at the one before: their places and each of their fields, as
+    columns, which packs small."""
     before, told_changes = [ROW] * (len(points[0].rows) if points else 0), []
     for point in points:
         rows = [(KINDS[kind], *rest) for kind, *rest in point.rows]
-        told_changes.append([(place, *row) for place, (row, old) in enumerate(zip(rows, before)) if row != old])
+        changed = [(place, *row) for place, (row, old) in enumerate(zip(rows, before)) if row != old]
+        told_changes.append([list(column) for column in zip(*changed)])
         before = rows
     return told_changes
 
 
-def extremes(xs, ys):
-    """Each value of a long series, or the least and the most of each of many spans of it, in their order."""
+def extremes(xs, ys, wanted=()):
+    """Each value of a long series, or those at the wanted places and the least and the most of each of many spans of it."""
     if len(ys) <= 2 * SHOWN:
         return list(xs), list(ys)
     step = -(-len(ys) // SHOWN)
-    places = set()
+    places = set(wanted)
     for first in range(0, len(ys), step):
         span = range(first, min(first + step, len(ys)))
         places |= {min(span, key=ys.__getitem__), max(span, key=ys.__getitem__)}
@@ -48,16 +46,17 @@ def extremes(xs, ys):
     return [xs[place] for place in places], [ys[place] for place in places]
 
 
-def held_of(sample, by_moves):
+def held_of(sample, x_of):
     """What held the memory at a moment, for the page: classes that have nothing are left out."""
     held = sample.held
     classes = [{'number': number, 'blocks': held.blocks[number], 'parts': parts}
                for number, parts in enumerate(held.classes) if any(parts)]
     if any(held.large):
         classes.append({'number': None, 'blocks': held.blocks[-1], 'parts': held.large})
-    slabs = [[(number, held_bytes) for number, held_bytes in enumerate(cpu) if held_bytes] for cpu in held.slabs]
-    return {'position': sample.position, 'line': sample.line, 'x': x_of(sample.position, sample.line, by_moves),
-            'resident': sample.resident, 'unused': held.unused, 'classes': classes, 'slabs': slabs}
+    fronts = [[(number, held_bytes) for number, held_bytes in enumerate(front) if held_bytes]
+              for front in held.caches or held.slabs]
+    return {'position': sample.position, 'line': sample.line, 'x': x_of(sample.position, sample.line),
+            'resident': sample.resident, 'unused': held.unused, 'classes': classes, 'fronts': fronts}
 
 
 def acts_of(watched):
@@ -75,7 +74,11 @@ def counts_of(watched):
 
     def ended(names, instructions):
         return sum(count(('CPU', name, instruction), 0) for name in names for instruction in instructions)
+
+    def of_caches(name):
+        return count(('own cache', name, None), 0)
     every, taking, adding = ('Pop', 'Stock', 'Push', 'PopBatch'), ('Pop',), ('Push',)
+    shed = of_caches('Trim')
     return [
         ('acts', sum(acts.values())),
         ('pops that found an object', ended(taking, ['Commit'])),
@@ -85,6 +88,10 @@ def counts_of(watched):
         ('sequences begun anew: the thread was switched in', ended(every, ['In'])),
         ('sequences begun anew: a fence came', ended(every, ['Back'])),
         ('sequences begun anew: the thread was moved', ended(every, ['Leave'])),
+        ('pops at threads\' caches', of_caches('Pop')),
+        ('frees into threads\' caches', of_caches('Add')),
+        ('limits of caches that took bytes of another\'s', of_caches('Raise')),
+        ('batches that full caches shed', shed),
         ('fetches from a shard', count(('shard', 'Fetch', None), 0)),
         ('gives to a shard', count(('shard', 'Give', None), 0)),
         ('new spans', count(('page map', 'SetSpan', None), 0)),

@@ -1,128 +1,109 @@
-"""Tells a run of the model act by act, for a page: what each act was, and which parts were other behind it."""
+"""Tells a run of the model act by act, for a page: what each act was, and which parts were other after it."""
 import collections
 
 import model
 from shared.ends import Stop
 
+import standing
+
 MOST_ACTS = 5000
-SHOWN = 48                      # objects of a list
-Told = collections.namedtuple('Told', 'data text')
+# `lines` are those that the calls were answered up to the end of what is told, and `is_whole` is whether the run ended there.
+Told = collections.namedtuple('Told', 'data lines text calls is_whole')
 
 
-def told(table, trace, order):
-    """The page's data and the text of the run."""
-    teller = Teller()
-    replay = model.Replay(table, trace, order, teller)
-    lines = trace.split('\n')
-    teller.begin(replay, lines)
-    replay.run()
-    status, text, notes = model.answer(replay, rows=False)
+def told(table, trace, order, command, nodes, first):
+    """What is told of a run from the first act of a call of trace line `first` or a later one on; all if it is None."""
+    replay = Window(table, trace, order, command, nodes, first)
+    if not replay.calls:
+        raise Stop('the trace has no call')
+    if (first or 1) > replay.calls[-1].line:
+        raise Stop('no call is of trace line %d or a later one; the last is of line %d' % (first, replay.calls[-1].line))
+    try:
+        replay.run()
+    except Enough:
+        replay.is_cut = True
+    status, text, notes = model.answer(replay, rows=True)
     if status:
         raise Stop(notes)
-    data = {'acts': teller.acts, 'start': teller.start, 'table': [row.size for row in replay.world.table],
-            'cpus': len(replay.world.cpus), 'threads': len(replay.threads), 'domains': replay.world.domains,
-            'heads': {name: value for name, value in replay.heads.items()},
-            'calls': [{'line': call.line, 'text': lines[call.line - 1].rstrip('\r')} for call in replay.calls]}
-    return Told(data, text)
+    return Told(replay.data(), replay.world.lines, text, len(replay.calls), not replay.is_cut)
 
 
-class Teller(model.Listener):
-    """Each part is told as a value of its own, and only where it isn't what it was."""
+class Enough(Exception):
+    """As many acts are told as may be."""
 
-    def begin(self, replay, lines):
-        self.lines = lines
-        self.acts = []
-        self.known = {}
-        self.picks = 0
-        self.start = self.changed(replay)
-        self.decided = 0
 
-    def changed(self, replay):
-        """The parts that are other than they were, by their names."""
-        now = parts(replay)
+class Window(model.Replay):
+    """A run that tells of its acts from a line of the trace on. Each part is told as a value of its own, and only if it
+    isn't what it was."""
+
+    def __init__(self, table, trace, order, command, nodes, first):
+        super().__init__(table, trace, order, command=command, nodes=nodes)
+        self.first = first
+        self.texts = trace.split('\n')
+        self.acts, self.known, self.start = [], {}, None
+        self.before = self.decided = 0
+        self.is_cut = False
+        if first is None:
+            self.begin()
+
+    def pick(self, thread):
+        if self.start is None and thread.program is not None and thread.calls[thread.ended].line >= self.first:
+            self.begin()
+        if self.start is not None:
+            self.note_label(thread)
+        return super().pick(thread)
+
+    def begin(self):
+        """What stood before the first act that is told."""
+        self.listener = self
+        self.before, self.decided = self.moved, len(self.world.lines)
+        self.known = standing.all_parts(self)
+        self.start = dict(self.known)
+
+    def note_label(self, thread):
+        """What stood of a label at the start is told if a call names it."""
+        if thread.program is None or thread.calls[thread.ended].word not in 'af':
+            return
+        for name, value in standing.label(self.world, thread.calls[thread.ended].numbers[0]).items():
+            if value is not None and name not in self.known:
+                self.known[name] = self.start[name] = value
+
+    def changes(self, now):
+        """The parts that are other than they were, by their names; None is told of one that is gone."""
         changes = {name: value for name, value in now.items() if self.known.get(name) != value}
-        gone = {name: None for name in self.known if name not in now}
-        self.known = now
-        return {**changes, **gone}
+        for name, value in changes.items():
+            if value is None:
+                del self.known[name]
+            else:
+                self.known[name] = value
+        return changes
 
     def add(self, act):
-        self.picks += 1
         if len(self.acts) == MOST_ACTS:
-            raise Stop('the run has more than %d acts; a shorter trace is wanted' % MOST_ACTS)
+            if self.first is None:
+                raise Stop('the run has more than %d acts; --from LINE shows as many from that line on' % MOST_ACTS)
+            raise Enough
         self.acts.append(act)
 
     def acted(self, replay, thread, call, act):
         part, name = act
-        lines = replay.world.lines[self.decided:]
+        lines = self.world.lines[self.decided:]
         self.decided += len(lines)
         self.add({'thread': thread.number, 'part': part, 'name': name, 'instruction': thread.instruction,
-                  'line': call.line, 'call': self.lines[call.line - 1].rstrip('\r'), 'number': replay.moved,
-                  'decided': lines, 'changes': self.changed(replay)})
+                  'dropped': standing.registers(thread.dropped), 'line': call.line, 'call': self.text_of(call),
+                  'label': call.numbers[0] if call.word in 'af' else None, 'number': self.moved, 'decided': lines,
+                  'changes': self.changes(standing.parts_after(self, thread, call, part, self.known))})
 
     def stood(self, replay, thread):
         why = 'all its calls have ended' if thread.program is None else 'it waits for label %d' % thread.waits_for
         self.add({'thread': thread.number, 'stood': why, 'changes': {}, 'decided': []})
 
+    def text_of(self, call):
+        return self.texts[call.line - 1].rstrip('\r')
 
-def parts(replay):
-    """All that stands, by the names of its parts."""
-    world = replay.world
-    now = {}
-    for number, cpu in enumerate(world.cpus):
-        now['cpu %d' % number] = cpu_of(cpu)
-        now.update(('slab %d %d' % (number, row.number), slab_of(cpu, row)) for row in world.table
-                   if cpu.cap[row.number] or cpu.top[row.number])
-    now.update(('thread %d' % thread.number, thread_of(thread, world)) for thread in replay.threads)
-    now.update(('shard %d' % row.number, shard_of(shard)) for row, shard in zip(world.table, world.shards)
-               if shard.transfer or shard.spans)
-    now.update(('cache %d %d' % place, listed(objects)) for place, objects in world.caches.items() if objects)
-    now.update(('hugepage %d' % page.number, hugepage_of(page)) for page in world.heap.at.values()
-               if page.kind != 'free' or page.backed)
-    now.update(('name %d' % label, [address, label in world.taken]) for label, address in world.names.items())
-    now.update(('block %d' % label, [block.length, block.asked]) for label, block in world.blocks.items())
-    return now
-
-
-def listed(objects):
-    """How many there are, and the first of them."""
-    return [len(objects), objects[:SHOWN]]
-
-
-def number_of(thread):
-    return None if thread is None else thread.number
-
-
-def cpu_of(cpu):
-    return {'running': number_of(cpu.running), 'epoch': cpu.epoch, 'stopper': number_of(cpu.stopper),
-            'fenced': cpu.fenced, 'bytes': cpu.bytes()}
-
-
-def slab_of(cpu, row):
-    """A class's objects from the bottom up, and what stands in the places above the top, which doesn't count."""
-    top, capacity, slots = cpu.top[row.number], cpu.cap[row.number], cpu.slots[row.number]
-    return {'top': top, 'capacity': capacity, 'objects': [slots[place] for place in range(min(top, SHOWN))],
-            'scratch': [slots.get(place) for place in range(top, min(capacity, SHOWN))]}
-
-
-def thread_of(thread, world):
-    return {'cpu': world.cpus.index(thread.cpu), 'epoch': thread.epoch, 'hand': listed(thread.hand),
-            'hand_class': thread.hand_row.number if thread.hand_row and thread.hand else None,
-            'spans': [span.run for span in thread.on_the_way], 'move': thread.move, 'executed': thread.executed,
-            'ended': thread.ended, 'next': thread.next_act, 'waits_for': thread.waits_for}
-
-
-def shard_of(shard):
-    return {'transfer': listed(shard.transfer),
-            'spans': [{'first': span.run[0], 'pages': span.run[1], 'objects': len(span.objects),
-                       'free': listed(span.free)} for span in sorted(shard.spans.values(), key=lambda span: span.run)]}
-
-
-def hugepage_of(page):
-    return [page.kind, page.used, len(page.runs), len(page.backed), page.longest, int(page.donated), ranges_of(page)]
-
-
-def ranges_of(page):
-    """The used ranges (first of its pages, pages) of a hugepage."""
-    first = page.number * 256
-    return [(max(start, first) - first, min(start + pages, first + 256) - max(start, first))
-            for start, pages in page.runs]
+    def data(self):
+        """What the page needs beside its own words."""
+        world = self.world
+        return {'acts': self.acts, 'start': self.start, 'table': [row.size for row in world.table], 'cpus': len(world.cpus),
+                'threads': len(self.threads), 'domains': world.domains, 'nodes': len(world.nodes), 'heads': dict(self.heads),
+                'before': self.before, 'calls': len(self.calls), 'ended': self.ended, 'is_cut': self.is_cut}

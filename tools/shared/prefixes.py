@@ -4,6 +4,7 @@ import collections
 
 from . import program
 from .ends import Stop
+from .heads import HEADS
 
 CALLS = (b'a ', b'f ', b'r ', b'd ', b'z ')
 MOST_POINTS = 20000
@@ -34,15 +35,18 @@ class Trace:
         return memoryview(self.data)[:self.ends[calls - 1] if calls else 0]
 
     def hugepages(self):
-        """The last head `huge`, or the usual number."""
-        huge = 64
+        """The last head `huge`, or the usual number. One that is none is for the program to refuse."""
+        huge = HEADS['huge'].default
         for line in self.data.split(b'\n'):
-            word, _, number = line.partition(b' ')
+            word, _, number = line.rstrip(b'\r').partition(b' ')
             if not word.isalpha() or len(word) == 1:
                 break
-            if word == b'huge':
-                huge = int(number)
+            if word == b'huge' and number.isdigit() and len(number) < 5:
+                huge = min(int(number), HEADS['huge'].most)
         return huge
+
+    def lines_in_all(self):
+        return self.data.count(b'\n') + (not self.data.endswith(b'\n') and bool(self.data))
 
 
 class Answers:
@@ -51,36 +55,50 @@ class Answers:
     def __init__(self, text, calls):
         self.live, self.nones = array.array('q'), array.array('L')
         self.first_none = None
-        length, live, nones = {}, 0, 0
-        for number, line in enumerate(text.split(b'\n', calls)[:calls]):
-            fields = line.split(b' ')
-            if fields[0] == b'a':
-                if fields[3] == b'none':
-                    nones += 1
-                    self.first_none = number if self.first_none is None else self.first_none
-                else:
-                    length[fields[2]] = int(fields[4])
-                    live += length[fields[2]]
-            elif fields[0] == b'f' and fields[3] != b'none':
-                live -= length.pop(fields[2])
-            self.live.append(live)
-            self.nones.append(nones)
+        self.length, self.bytes, self.count = {}, 0, 0
+        try:
+            for number, line in enumerate(text.split(b'\n', calls)[:calls]):
+                self.add(number, line.split(b' '))
+        except (ValueError, LookupError):
+            raise Stop('what was run isn\'t tcreplay: it prints something else') from None
+
+    def add(self, number, fields):
+        if fields[0] == b'a':
+            if fields[3] == b'none':
+                self.count += 1
+                self.first_none = number if self.first_none is None else self.first_none
+            else:
+                self.length[fields[2]] = int(fields[4])
+                self.bytes += self.length[fields[2]]
+        elif fields[0] == b'f' and fields[3] != b'none':
+            self.bytes -= self.length.pop(fields[2])
+        self.live.append(self.bytes)
+        self.nones.append(self.count)
+
+
+def checked_summary(text, calls):
+    """The summary of a trace's whole run, which has so many calls."""
+    summary = program.summary_of(text)
+    if summary.calls != calls:
+        raise Stop('what was run isn\'t tcreplay: it tells of %d calls, and the trace has %d' % (summary.calls, calls))
+    return summary
 
 
 class Series:
     """The points of a run. Each is the program's own summary of a prefix."""
 
-    def __init__(self, built, words, trace, many):
+    def __init__(self, built, words, trace, many, nodes=1):
         self.built, self.words, self.trace = built, words, trace
         self.many = many        # runs at a time
-        self.keep = program.tail_bytes(trace.hugepages())
+        self.keep = program.tail_bytes(nodes * trace.hugepages())
         self.points = {}
 
     def whole(self):
         """The whole text, told call by call."""
         done = program.checked(program.run(self.built, self.words, self.trace.data))
+        summary = checked_summary(done.text[-self.keep:], self.trace.calls())
         self.answers = Answers(done.text, self.trace.calls())
-        self.note(self.trace.calls(), program.summary_of(done.text[-self.keep:]))
+        self.note(self.trace.calls(), summary)
         return self.answers
 
     def point(self, calls):

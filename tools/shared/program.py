@@ -3,6 +3,8 @@ import collections
 import concurrent.futures
 import contextlib
 import os
+import re
+import resource
 import signal
 import subprocess
 
@@ -10,10 +12,15 @@ from .ends import Stop, package
 
 TOP = os.path.dirname(os.path.dirname(os.path.dirname(os.path.abspath(__file__))))
 BUILT = os.path.join(TOP, 'crates', 'tcreplay', 'out', 'tcreplay')
+MODELS = [os.path.join(TOP, name) for name in ('model', 'tests/model')]
 USUAL_TABLE = os.path.join(TOP, 'examples', 'T2.csv')
 PAGE = 8192                     # bytes of a page
 PAGES = 256                     # pages of a hugepage
 LINE = 48                       # no line of a summary or a hugepage is longer
+MOST_TEXT = 1 << 28             # bytes of a text, far above any of the program's
+MOST_SECONDS = 900              # of a run, far above any of the program's
+SUMMARY = re.compile(rb'calls ([0-9]+)\nlive ([0-9]+) ([0-9]+)\nused ([0-9]+)\nresident ([0-9]+)\nfrag ([0-9]+)\n'
+                     rb'((?:h [0-9]+ (?:free|filler|run|region)(?: [0-9]+){5}\n)*)\Z')
 
 Summary = collections.namedtuple('Summary', 'calls blocks live used resident frag rows')
 Row = collections.namedtuple('Row', 'kind used runs backed longest donated')
@@ -27,6 +34,11 @@ def found(path):
         raise Stop('the program isn\'t built: ./tcreplay builds it' if path == BUILT else
                    '%s isn\'t built; ./tcreplay builds the program of this checkout' % path)
     return path
+
+
+def model_of_rules():
+    """The model as a program with the same words, for what is short enough if the program isn't built."""
+    return next((path for path in MODELS if os.access(path, os.X_OK)), None)
 
 
 @contextlib.contextmanager
@@ -46,15 +58,40 @@ def memory_file(data=b''):
 def run(program, words, trace, keep=None):
     """One run over a trace. Of its text the last `keep` bytes are answered, or all."""
     with memory_file(trace) as source, memory_file() as text:
-        done = subprocess.run([program, *words], stdin=source, stdout=text, stderr=subprocess.PIPE)
+        try:
+            status, notes = ended([program, *words], source, text)
+        except OSError as fault:
+            raise Stop('%s can\'t be run: %s' % (program, fault.strerror)) from None
         size = os.fstat(text).st_size
         start = max(0, size - keep) if keep is not None else 0
         read = os.pread(text, size - start, start)
-    return Done(done.returncode, read, done.stderr.decode(errors='replace').strip())
+    return Done(status, read, notes.decode(errors='replace').strip())
+
+
+def limits_of_text():
+    """The bytes that a run may print: no limit rises by this."""
+    limits = resource.getrlimit(resource.RLIMIT_FSIZE)
+    return tuple(MOST_TEXT if limit == resource.RLIM_INFINITY else min(limit, MOST_TEXT) for limit in limits)
+
+
+def ended(words, source, text):
+    """The status and the notes of a process, which is ended where it prints without end or doesn't end by itself."""
+    with subprocess.Popen(words, stdin=source, stdout=text, stderr=subprocess.PIPE) as process:
+        with contextlib.suppress(ProcessLookupError):
+            resource.prlimit(process.pid, resource.RLIMIT_FSIZE, limits_of_text())
+        try:
+            notes = process.communicate(timeout=MOST_SECONDS)[1]
+        except subprocess.TimeoutExpired:
+            raise Stop('%s didn\'t end in %d s' % (words[0], MOST_SECONDS)) from None
+        finally:
+            process.kill()
+    return process.returncode, notes
 
 
 def refusal(done):
     """What to say of a run that had no text."""
+    if done.status == -signal.SIGXFSZ:
+        return 'what was run prints without end: it isn\'t tcreplay'
     if done.status < 0:
         return 'the program was ended by %s' % signal.Signals(-done.status).name
     return done.notes.split('\n')[0] or 'the program ended with status %d' % done.status
@@ -73,11 +110,12 @@ def tail_bytes(huge):
 
 def summary_of(text):
     """The summary at the end of a text, with its hugepages where they are there."""
-    lines = text.decode('latin-1').split('\n')
-    last = max(number for number, line in enumerate(lines) if line.startswith('frag '))
-    numbers = [int(field) for line in lines[last - 4:last + 1] for field in line.split(' ')[1:]]
-    rows = [line.split(' ') for line in lines[last + 1:-1]]
-    return Summary(*numbers, [Row(row[2], *map(int, row[3:])) for row in rows])
+    start = max(text.rfind(b'\ncalls ') + 1, 0)
+    found = SUMMARY.match(text, start)
+    if found is None:
+        raise Stop('what was run isn\'t tcreplay: its text has no summary')
+    rows = [line.split(' ') for line in found[7].decode().split('\n')[:-1]]
+    return Summary(*(int(number) for number in found.groups()[:6]), [Row(row[2], *map(int, row[3:])) for row in rows])
 
 
 def processors():

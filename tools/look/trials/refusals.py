@@ -44,7 +44,7 @@ def test_setup_names_what_it_may_not_install(folder):
     fake(folder, 'dpkg-query', 'exit 1\n')
     fake(folder, 'id', 'echo 1000\n')
     env = {**os.environ, 'PATH': folder + ':' + os.environ['PATH']}
-    result = run([os.path.join(TOP, 'tools', 'setup')], env=env)
+    result = run([os.path.join(TOP, 'tools', 'setup'), '--all'], env=env)
     one_line('setup', result, 1, 'only root', 'python3-plotly', 'python3-distributed', 'chromium-driver', 'heaptrack')
 
 

@@ -1,6 +1,5 @@
-// What each page's script stands on: its data, its parts by name, and how numbers are written.
+// What each page's script stands on: its data (DATA), its parts by name, its colours, and how numbers are written.
 'use strict';
-const DATA = JSON.parse(document.getElementById('data').textContent);
 const PAGE = 8192, PAGES = 256, MIB = 1048576;
 
 const part = name => document.getElementById(name);
@@ -25,7 +24,7 @@ function element(name, kind, ...content) {
 // A table of a heading and rows of texts. Of a row {kind, cells} the first is its class.
 function table(heads, rows) {
     const made = element('table', '');
-    made.append(element('thead', '', element('tr', '', ...heads.map(head => element('th', '', head)))));
+    made.append(element('thead', '', element('tr', '', ...heads.map(head => Object.assign(element('th', '', head), {scope: 'col'})))));
     const body = element('tbody', '');
     for (const row of rows) {
         const cells = row.cells || row;
@@ -53,10 +52,59 @@ function slider(name, count, first, tell) {
     return go;
 }
 
-const PLAIN = {
-    font: {family: 'system-ui, "Segoe UI", Roboto, "DejaVu Sans", sans-serif', size: 13, color: '#1f2933'},
-    paper_bgcolor: '#fff', plot_bgcolor: '#fff', hoverlabel: {bgcolor: '#fff', font: {size: 12.5}},
-    margin: {l: 70, r: 24, t: 16, b: 48}
-};
-const AXIS = {gridcolor: '#e8edf2', zerolinecolor: '#c3cfdb', linecolor: '#c3cfdb', automargin: true};
+// Colours are those of page.css: ink('blue') is its --blue, in the scheme that holds now.
+const ink = name => getComputedStyle(document.documentElement).getPropertyValue('--' + name).trim();
+
+// Where several series stand together, the n-th has this colour, this dash, this sign and this pattern: they are apart in grey.
+const SERIES = [['vermillion', 'solid', 'circle', ''], ['blue', 'dash', 'square', '/'], ['green', 'dot', 'triangle-up', 'x'],
+    ['purple', 'dashdot', 'cross', '\\'], ['sky', 'longdash', 'star', '-'], ['orange', 'longdashdot', 'hexagon', '|'],
+    ['grey', 'solid', 'x', '+'], ['yellow', 'dash', 'triangle-down', '.']];
+
+function series(number) {
+    const [color, dash, symbol, shape] = SERIES[number % SERIES.length];
+    return {color: ink(color), dash, symbol, pattern: {shape, size: 6, solidity: 0.35, fgcolor: ink('paper'), fillmode: 'overlay'}};
+}
+
+// What plots are made with. Their colours follow the scheme.
+const PLAIN = {margin: {l: 70, r: 24, t: 16, b: 48}};
+const AXIS = {automargin: true};
 const TOOLS = {displaylogo: false, responsive: true, modeBarButtonsToRemove: ['lasso2d', 'select2d']};
+
+function colourPlots() {
+    const family = 'system-ui, "Segoe UI", Roboto, "DejaVu Sans", sans-serif';
+    Object.assign(PLAIN, {font: {family, size: 13, color: ink('ink')}, paper_bgcolor: ink('paper'), plot_bgcolor: ink('paper'),
+        hoverlabel: {bgcolor: ink('paper'), bordercolor: ink('edge'), font: {size: 12.5, color: ink('ink')}},
+        modebar: {bgcolor: 'rgba(0,0,0,0)', color: ink('edge'), activecolor: ink('ink')}});
+    Object.assign(AXIS, {gridcolor: ink('thin'), zerolinecolor: ink('line'), linecolor: ink('line')});
+}
+
+// What is drawn with colours is drawn again if the scheme changes, and in light before it is printed.
+const drawings = [];
+
+function drawing(draw) {
+    drawings.push(draw);
+    draw();
+}
+
+function drawAgain() {
+    colourPlots();
+    drawings.forEach(draw => draw());
+}
+
+const PAPER_WIDTH = 700;        // points of a plot that is printed
+
+function fitPlots(width) {
+    for (const plot of document.querySelectorAll('.js-plotly-plot')) Plotly.relayout(plot, {width, autosize: width === undefined});
+}
+
+function forPaper(isPaper) {
+    if (isPaper) document.documentElement.dataset.scheme = 'light';
+    else delete document.documentElement.dataset.scheme;
+    drawAgain();
+    if (typeof Plotly !== 'undefined') fitPlots(isPaper ? PAPER_WIDTH : undefined);
+}
+
+colourPlots();
+matchMedia('(prefers-color-scheme: dark)').addEventListener('change', drawAgain);
+addEventListener('beforeprint', () => forPaper(true));
+addEventListener('afterprint', () => forPaper(false));
