@@ -1,4 +1,4 @@
-# Completion of tcreplay's words in bash: source docs/tcreplay.bash
+# Completion of tcreplay's words in bash, and of the model's, which are the same: source docs/tcreplay.bash
 
 # The options of each command, and what stands behind an option: a file, one of some words, a number, or nothing.
 declare -gA _tcreplay_options=(
@@ -43,4 +43,4 @@ _tcreplay() {
     mapfile -t COMPREPLY < <(compgen -W "$options" -- "$word")
 }
 
-complete -F _tcreplay tcreplay ./tcreplay
+complete -F _tcreplay tcreplay ./tcreplay ./model
