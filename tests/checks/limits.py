@@ -49,6 +49,25 @@ def heads_at_the_ends_of_their_ranges():
     return wrong
 
 
+# Lines of a trace with one number left out, its greatest value as docs/FORMATS.md tells it, and by what a line with that is
+# refused all the same, if it is: no such thread, CPU or class is there.
+NUMBERS = [(b'a 0 %d 0', 999999, None), (b'a 0 0 %d', 2 ** 40, None), (b'f 0 %d', 999999, b'labelunknown'), (b'p 0 %d 0\nr 0 0', 1000000, None),
+           (b'r 0 %d', 1048576, None), (b'z 0 0 0 %d', 1000000, None), (b'r %d 0', 65535, b'thread'), (b'd 0 %d', 65535, b'cpu'),
+           (b'p 0 1 %d', 65535, b'cpu'), (b'z 0 0 %d 0', 65535, b'class')]
+
+
+def numbers_at_the_ends_of_their_ranges():
+    """The greatest value of each number of a line is read, and one more isn't."""
+    wrong = []
+    for line, most, why in NUMBERS:
+        status, _, notes = run(SERIAL, line % most + b'\n', {b'T0.csv': SMALL_TABLE})
+        expected = (0, b'') if why is None else (4, b'tcreplay: trace line 1: %s\n' % why)
+        if (status, notes) != expected:
+            wrong.append('%r: status %d, %r' % (line % most, status, notes))
+        wrong += check_small(line % (most + 1) + b'\n', 4, stderr=b'tcreplay: trace line 1: number\n')
+    return wrong
+
+
 ONE_BLOCK = b'a 0 0 2097152 303104\ncalls 1\nlive 1 303104\nused 37\nresident 256\nfrag 855\n'
 
 
@@ -95,5 +114,6 @@ def table_of_121_rows():
 
 CASES = [most_lines, one_line_too_many, longest_trace, trace_one_byte_too_long, longest_table,
          table_one_byte_too_long, table_of_120_rows, table_of_121_rows, heads_at_the_ends_of_their_ranges,
+         numbers_at_the_ends_of_their_ranges,
          most_picks, too_many_picks, most_order_lines, one_order_line_too_many, longest_order,
          order_one_byte_too_long]
